@@ -1,0 +1,9 @@
+-- The plain machine of document 01, from the image up to the calls.
+pub mod Results
+pub mod Images
+pub mod Bags
+pub mod Machine
+pub mod Pages
+pub mod Checks
+pub mod Merges
+pub mod Calls

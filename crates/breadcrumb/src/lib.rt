@@ -1,0 +1,1 @@
+// The catalogue: one lent image, and the calls on it.

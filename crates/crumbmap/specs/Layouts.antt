@@ -1,0 +1,31 @@
+-- The numbers that a layout fixes, and those that the size B of an image fixes.
+use Prim.Native.Nat.{ℕ, _+_, _*_, _/_, _^_}
+
+pub record Layout : Type 0 where
+  pub minis : ℕ
+  pub frontSlots : ℕ
+  pub backSlots : ℕ
+  pub tagBytes : ℕ
+
+-- "each of the 36 mini-buckets", "Front: 28 slots", "Backyard: 22 slots", "tags, two bytes each"
+abbrev pub layout1 : Layout
+layout1 = record { minis = 36; frontSlots = 28; backSlots = 22; tagBytes = 2 }
+
+-- how many tags there are
+abbrev pub tags : Layout → ℕ
+tags L = 2 ^ (8 * L .tagBytes)
+
+-- how many keys m × tags + r there are
+abbrev pub keys : Layout → ℕ
+keys L = L .minis * tags L
+
+-- the bytes of the word of a bucket of so many slots: a bit for each mini-bucket and slot
+abbrev pub wordBytes : Layout → ℕ → ℕ
+wordBytes L slots = (L .minis + slots + 7) / 8
+
+-- "F = 8 × B front buckets come first, then B + 7 backyard buckets"
+unfoldable pub fronts : ℕ → ℕ
+fronts B = 8 * B
+
+unfoldable pub backyards : ℕ → ℕ
+backyards B = B + 7

@@ -1,0 +1,1 @@
+// One 64-byte bucket: its word, slots, reader, search, insert and remove.

@@ -1,0 +1,1 @@
+// Multisets and digits: definitions and laws alone (specs/, proofs/); no code.
