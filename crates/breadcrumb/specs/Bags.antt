@@ -1,14 +1,9 @@
--- The bags of a front bucket f that its backyard buckets hold, "decoded from the buckets by crumb".
-use Prim.Native.Nat.{ℕ, _/_, _%_}
-use mathlib.Core.Bool.{Bool, cond, not, _&&_, _||_}
+-- The bags First(f) and Second(f), `carrying` of f's crumb in its two backyard buckets, taken together.
+use Prim.Native.Nat.{ℕ}
+use mathlib.Core.Bool.{Bool, not, _&&_, _||_}
 use mathlib.Core.List.{List, [], _∷_}
-use lib.Dec.{ltb, eqb}
+use lib.Dec.{ltb}
 use Rattle.multiset.specs.Multisets.{added, copies}
-
--- First(f) and Second(f): the keys of the members that carry f's crumb
-unfoldable pub carrying : ℕ → List ℕ → List ℕ
-carrying c [] = []
-carrying c (y ∷ ys) = cond (eqb (y % 16) c) (y / 16 ∷ carrying c ys) (carrying c ys)
 
 -- all of two bags together
 unfoldable pub addedAll : List ℕ → List ℕ → List ℕ

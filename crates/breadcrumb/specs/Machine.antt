@@ -9,9 +9,10 @@ use lib.Dec.{leb, ltb, eqb}
 use Rattle.multiset.specs.Multisets.{added, removed, copies, slotOf, largest}
 use Rattle.crumbmap.specs.Layouts.{Layout}
 use Rattle.crumbmap.specs.CrumbMap.{firstBucket, secondBucket, firstCrumb, secondCrumb, bucketOf, crumbOf}
+use Rattle.minifilter.specs.Buckets.{carrying}
 use Rattle.breadcrumb.specs.Results.{Result, accepted, refused, andThen}
 use Rattle.breadcrumb.specs.Images.{frontAt, backAt, putFront, putBack}
-use Rattle.breadcrumb.specs.Bags.{carrying, addedAll, has, fromFirst}
+use Rattle.breadcrumb.specs.Bags.{addedAll, has, fromFirst}
 
 -- an insert's or a delete's answer, and the image after it
 pub record Change : Type 0 where

@@ -2,3 +2,4 @@
 pub mod Layouts
 pub mod Fingerprints
 pub mod CrumbMap
+pub mod Places

@@ -1,1 +1,23 @@
 // Fingerprints of hashes, and the map between front and backyard buckets (algorithm 1).
+// Sizes are document 01's B. Bucket numbers are types of their own: only the map and its way back turn one into the other.
+
+pub mod fingerprint;
+pub mod map;
+
+// The number of a front bucket.
+pub struct Front(pub usize);
+
+// The number of a backyard bucket, counted from the first backyard bucket.
+pub struct Backyard(pub usize);
+
+// Where a front bucket's overflow goes by one of the two choices, and the crumb that it carries there.
+pub struct Overflow {
+    pub bucket: Backyard,
+    pub crumb: u32,
+}
+
+// The front bucket that a crumb leads back to.
+pub enum Home {
+    At(Front),
+    Invalid,
+}

@@ -1,11 +1,11 @@
 -- A bucket's 64 bytes and its members, both ways. A front member is its key m × tags + r; a backyard member is key × 16 + crumb.
 -- So "members ascend by (m, r)" and "by (m, r, crumb)" are both the order of numbers.
-use Prim.Native.Nat.{ℕ, _+_, _*_, _%_, _-_}
+use Prim.Native.Nat.{ℕ, _+_, _*_, _/_, _%_, _-_, _<_, _≤_}
 use mathlib.Core.Bool.{Bool, true, false, cond, _&&_}
 use mathlib.Core.List.{List, [], _∷_, _++_}
 use mathlib.Core.Option.{Option, none, some, bind}
 use lib.ListN.{length, take, drop}
-use lib.Dec.{leb}
+use lib.Dec.{leb, eqb}
 use Rattle.multiset.specs.Multisets.{ascending, allZero}
 use Rattle.multiset.specs.Digits.{digits, value, spread, grouped, padded, joined, highs, lows}
 use Rattle.crumbmap.specs.Layouts.{Layout, tags, wordBytes}
@@ -24,6 +24,11 @@ isSome (some f) = true
 unfoldable pub valid : ℕ → ℕ → List ℕ → Bool
 valid B j [] = true
 valid B j (y ∷ ys) = isSome (home B j (y % 16)) && valid B j ys
+
+-- First(f) and Second(f), "decoded from the buckets by crumb": the keys of the members that carry crumb c, in order
+unfoldable pub carrying : ℕ → List ℕ → List ℕ
+carrying c [] = []
+carrying c (y ∷ ys) = cond (eqb (y % 16) c) (y / 16 ∷ carrying c ys) (carrying c ys)
 
 module _ (L : Layout) where
   -- how many bytes word and tags take
@@ -69,3 +74,10 @@ module _ (L : Layout) where
       bind (slotKeys (L .backSlots) b) (λ xs.
       let ys : List ℕ = joined 16 xs cs in
       given (ascending ys) (given (allZero (drop (length xs) cs)) (given (valid B j ys) (some ys))))
+
+-- a layout whose buckets fit 64 bytes, "mini-bucket, slot and tag numbers above nought"
+pub record Fits64 (L : Layout) : Type 0 where
+  pub minis : 0 < L .minis
+  pub slots : 0 < L .frontSlots
+  pub front : slotEnd L (L .frontSlots) ≤ 64
+  pub back : 2 * slotEnd L (L .backSlots) + L .backSlots ≤ 128

@@ -1,0 +1,2 @@
+-- Laws of the catalogue.
+pub mod MarkedCases

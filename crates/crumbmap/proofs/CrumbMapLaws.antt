@@ -1,0 +1,112 @@
+-- The map and its way back undo each other, for either choice; numbers are in range; no two front buckets share a (bucket, crumb).
+use mathlib.Core.Path.{_≡_, refl, sym, _∙_, ap}
+use Prim.Native.Nat.{ℕ, _+_, _*_, _/_, _%_, _-_, _≤_, _<_}
+use mathlib.Core.Bool.{Bool, true, false, cond, _&&_}
+use mathlib.Core.Option.{Option, none, some}
+use native.Mathlib.Nat.{mul-le-mul-right, add-mul-div-right, add-mul-mod-self-right, div-eq-of-lt, mod-eq-of-lt, mod-add-div', mod-lt}
+use native.Mathlib.Omega.{arith}
+use lib.Dec.{ltb}
+use borrow.Author.Tests.{lt-ltb, le-ltb, ltb-true, ltb-false}
+use Rattle.crumbmap.specs.Layouts.{fronts, backyards}
+use Rattle.crumbmap.specs.CrumbMap.{stride, firstBucket, firstCrumb, secondBucket, secondCrumb, bucketOf, crumbOf, firstHome, secondHome, home}
+
+pub bucketOf-lt : (t : Bool) (B f : ℕ) → f < fronts B → bucketOf t B f < backyards B
+unfolding firstBucket firstCrumb secondBucket stride fronts backyards
+bucketOf-lt true B f h = omega arith
+bucketOf-lt false B f h = let d : f % 8 ≤ 7 = omega arith in omega (arith, mul-le-mul-right (B / 8 + 1) d)
+
+pub crumbOf-lt : (t : Bool) (f : ℕ) → crumbOf t f < 16
+unfolding firstBucket firstCrumb secondCrumb
+crumbOf-lt true f = omega arith
+crumbOf-lt false f = omega arith
+
+-- ---- back of map
+
+-- b1 = t + e × K with t below K: quotient and remainder are e and t
+second-quotient : (K t e : ℕ) → t < K → (t + e * K) / K ≡ e
+second-quotient K t e h = add-mul-div-right t e {z = K} (omega arith) ∙ ap (λ (n : ℕ). n + e) (div-eq-of-lt h) ∙ omega arith
+
+second-remainder : (K t e : ℕ) → t < K → (t + e * K) % K ≡ t
+second-remainder K t e h = add-mul-mod-self-right t e K ∙ mod-eq-of-lt h
+
+-- back of map is the front bucket
+pub home-bucketOf : (t : Bool) (B f : ℕ) → f < fronts B → home B (bucketOf t B f) (crumbOf t f) ≡ some f
+unfolding firstBucket firstCrumb secondBucket secondCrumb stride fronts home firstHome secondHome
+home-bucketOf true B f h =
+    let d : f % 8 < 8 = omega arith in
+    let b : f / 8 < B = omega arith in
+    let e : 8 * (f / 8) + f % 8 ≡ f = omega arith in
+    rw (lt-ltb _ _ d, lt-ltb _ _ b, e)
+home-bucketOf false B f h =
+    let K : ℕ = B / 8 + 1 in
+    let t : ℕ = f / 8 / 8 in
+    let small : t < K = omega arith in
+    let c : 8 ≤ 8 + f / 8 % 8 = omega arith in
+    let d : 8 + f / 8 % 8 - 8 ≡ f / 8 % 8 = omega arith in
+    let e : f % 8 < 8 = omega arith in
+    let b : 8 * t + f / 8 % 8 < B = omega arith in
+    let s : 64 * t + 8 * (f / 8 % 8) + f % 8 ≡ f = omega arith in
+    rw (le-ltb _ _ c, d, second-quotient K t (f % 8) small, second-remainder K t (f % 8) small, lt-ltb _ _ e, lt-ltb _ _ b, s)
+
+-- ---- map of back
+
+given-some : (b : Bool) (x f : ℕ) → cond b (some x) none ≡ some f → (b ≡ true) × (x ≡ f)
+given-some true x f e = (refl, cc)
+given-some false x f e = let z : _≡_ {A = ℕ} 0 1 = cc in absurd (omega arith)
+
+both : (a b : Bool) → a && b ≡ true → (a ≡ true) × (b ≡ true)
+both true b e = (refl, e)
+both false b e = let z : _≡_ {A = ℕ} 0 1 = cc in absurd (omega arith)
+
+-- a crumb that is valid leads home by one of the two choices
+data Valid (B j c f : ℕ) : Type 0 where
+  by-first : c < 8 → j < B → 8 * j + c ≡ f → Valid B j c f
+  by-second : 8 ≤ c → j / stride B < 8 → 8 * (j % stride B) + (c - 8) < B → 64 * (j % stride B) + 8 * (c - 8) + j / stride B ≡ f → Valid B j c f
+
+home-valid : (B j c f : ℕ) → home B j c ≡ some f → Valid B j c f
+unfolding home firstHome secondHome
+home-valid B j c f e = go (ltb c 8) refl e
+  where
+    go : (b : Bool) → ltb c 8 ≡ b → cond b (firstHome B j c) (secondHome B j (c - 8)) ≡ some f → Valid B j c f
+    go true l g =
+        let h = given-some (ltb j B) (8 * j + c) f g in
+        by-first (ltb-true c 8 l) (ltb-true j B (h .0)) (h .1)
+    go false l g =
+        let h = given-some (ltb (j / stride B) 8 && ltb (8 * (j % stride B) + (c - 8)) B) (64 * (j % stride B) + 8 * (c - 8) + j / stride B) f g in
+        let k = both _ _ (h .0) in
+        by-second (ltb-false c 8 l) (ltb-true _ _ (k .0)) (ltb-true _ _ (k .1)) (h .1)
+
+pub home-lt : (B j c f : ℕ) → c < 16 → home B j c ≡ some f → f < fronts B
+unfolding fronts
+home-lt B j c f l e = go (home-valid B j c f e)
+  where
+    go : Valid B j c f → f < 8 * B
+    go (by-first h b s) = omega arith
+    go (by-second h b d s) = omega arith
+
+-- map of back, where valid, is the bucket and the crumb
+pub bucketOf-home : (B j c f : ℕ) → c < 16 → home B j c ≡ some f → (bucketOf (ltb c 8) B f ≡ j) × (crumbOf (ltb c 8) f ≡ c)
+unfolding firstBucket firstCrumb secondBucket secondCrumb
+bucketOf-home B j c f l e = go (home-valid B j c f e)
+  where
+    go : Valid B j c f → (bucketOf (ltb c 8) B f ≡ j) × (crumbOf (ltb c 8) f ≡ c)
+    go (by-first h b s) = rw (lt-ltb _ _ h) (omega arith)
+    go (by-second h b d s) =
+        let q : f / 8 / 8 ≡ j % stride B = omega arith in
+        let r : f % 8 ≡ j / stride B = omega arith in
+        rw (le-ltb _ _ h) (rw (q, r) (mod-add-div' j (stride B)), omega arith)
+
+-- two different front buckets never share a (bucket, crumb)
+pub front-unique : (t u : Bool) (B e f : ℕ) → e < fronts B → f < fronts B → bucketOf t B e ≡ bucketOf u B f → crumbOf t e ≡ crumbOf u f → e ≡ f
+front-unique t u B e f h k p q =
+    let back : home B (bucketOf u B f) (crumbOf u f) ≡ some e = rw (← p, ← q) (home-bucketOf t B e h) in
+    let there = home-bucketOf u B f k in
+    cc
+
+-- a crumb tells its choice
+pub choice-unique : (t u : Bool) (e f : ℕ) → crumbOf t e ≡ crumbOf u f → t ≡ u
+unfolding firstBucket firstCrumb secondCrumb
+choice-unique true true e f q = refl
+choice-unique true false e f q = absurd (omega arith)
+choice-unique false true e f q = absurd (omega arith)
+choice-unique false false e f q = refl

@@ -1,0 +1,62 @@
+-- Every number of a fingerprint is in range, and a fingerprint settles its front bucket and key.
+use mathlib.Core.Path.{_≡_, refl, sym, _∙_, ap}
+use Prim.Native.Nat.{ℕ, suc, _+_, _*_, _/_, _%_, _^_, _≤_, _<_}
+use native.Mathlib.Nat.{
+  div-lt-iff-lt-mul,
+  mul-lt-mul-of-pos-right,
+  mul-le-mul-right,
+  mul-comm,
+  mod-lt,
+  mul-add-div-right,
+  mul-add-mod-self-right,
+  div-eq-of-lt,
+  mod-eq-of-lt,
+  add-zero,
+  suc-mul,
+}
+use native.Mathlib.Omega.{arith}
+use lib.Pow.{pow-pos}
+use Rattle.crumbmap.specs.Layouts.{Layout, tags, keys, fronts}
+use Rattle.crumbmap.specs.Fingerprints.{frontOf, tagOf, miniOf, keyOf, fingerprint}
+
+-- a part of n, taken in 2 ^ j steps and rounded down, is below n
+scaled-lt : (j q n : ℕ) → q < 2 ^ j → 0 < n → q * n / 2 ^ j < n
+scaled-lt j q n h p = div-lt-iff-lt-mul (pow-pos j) .1 (rw (mul-comm n (2 ^ j)) (mul-lt-mul-of-pos-right h p))
+
+-- a × k + r below n × k, for a below n and r below k
+digit-lt : (k n a r : ℕ) → a < n → r < k → a * k + r < n * k
+digit-lt k n a r h l = omega (arith, suc-mul a k, mul-le-mul-right k h)
+
+pub frontOf-lt : (B k : ℕ) → 0 < B → k < 2 ^ 64 → frontOf B k < fronts B
+unfolding frontOf fronts
+frontOf-lt B k p h = scaled-lt 32 (k / 2 ^ 32) (8 * B) (omega arith) (omega arith)
+
+pub miniOf-lt : (L : Layout) (k : ℕ) → 0 < L .minis → miniOf L k < L .minis
+unfolding miniOf
+miniOf-lt L k p = scaled-lt 16 (k / 65536 % 65536) (L .minis) (omega arith) p
+
+pub tagOf-lt : (L : Layout) (k : ℕ) → tagOf L k < tags L
+unfolding tagOf
+tagOf-lt L k = mod-lt k (pow-pos (8 * L .tagBytes))
+
+pub keyOf-lt : (L : Layout) (k : ℕ) → 0 < L .minis → keyOf L k < keys L
+unfolding keyOf
+keyOf-lt L k p = digit-lt (tags L) (L .minis) (miniOf L k) (tagOf L k) (miniOf-lt L k p) (tagOf-lt L k)
+
+pub fingerprint-lt : (L : Layout) (n f x : ℕ) → f < n → x < keys L → fingerprint L f x < n * keys L
+unfolding fingerprint
+fingerprint-lt L n f x h k = digit-lt (keys L) n f x h k
+
+-- the digits of a × k + r
+quotient : (k a r : ℕ) → r < k → (a * k + r) / k ≡ a
+quotient k a r h = mul-add-div-right {m = k} (omega arith) a r ∙ ap (λ (n : ℕ). a + n) (div-eq-of-lt h) ∙ add-zero a
+
+remainder : (k a r : ℕ) → r < k → (a * k + r) % k ≡ r
+remainder k a r h = mul-add-mod-self-right a k r ∙ mod-eq-of-lt h
+
+pub fingerprint-unique : (L : Layout) (e f x y : ℕ) → x < keys L → y < keys L → fingerprint L e x ≡ fingerprint L f y → (e ≡ f) × (x ≡ y)
+unfolding fingerprint
+fingerprint-unique L e f x y h k q = (
+  sym (quotient (keys L) e x h) ∙ ap (λ (n : ℕ). n / keys L) q ∙ quotient (keys L) f y k,
+  sym (remainder (keys L) e x h) ∙ ap (λ (n : ℕ). n % keys L) q ∙ remainder (keys L) f y k,
+)

@@ -1,0 +1,3 @@
+-- Laws of fingerprints and of the map.
+pub mod FingerprintLaws
+pub mod CrumbMapLaws

@@ -1,0 +1,22 @@
+-- The map as the code's answers give it.
+use mathlib.Core.Path.{_≡_}
+use Prim.Native.Nat.{ℕ, _<_}
+use mathlib.Core.Bool.{Bool}
+use mathlib.Core.Option.{Option, none, some}
+use Rattle.crumbmap.specs.Layouts.{backyards}
+use Rattle.crumbmap.specs.CrumbMap.{bucketOf, crumbOf}
+use Rattle.crumbmap.specs.declared.Overflow.{Overflow}
+use Rattle.crumbmap.specs.declared.Home.{Home}
+use Rattle.crumbmap.specs.declared.Home.the-variants.{At, Invalid}
+
+-- the backyard bucket and the crumb of a choice for front bucket f, both in range
+pub record Leads (t : Bool) (B f : ℕ) (r : Overflow) : Type 0 where
+  pub bucket : r .bucket .0 ≡ bucketOf t B f
+  pub crumb : r .crumb ≡ crumbOf t f
+  pub inside : r .bucket .0 < backyards B
+  pub small : r .crumb < 16
+
+-- the front bucket of the way back
+abbrev pub homeOf : Option ℕ → Home
+homeOf none = Invalid
+homeOf (some f) = At (record { 0 = f })
