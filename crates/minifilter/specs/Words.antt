@@ -19,3 +19,10 @@ minisFrom (suc bits) (suc minis) m w =
     let member : Option (List ℕ) = Option·map (λ (ms : List ℕ). m ∷ ms) (minisFrom bits (suc minis) m (w / 2)) in
     let end : Option (List ℕ) = minisFrom bits minis (suc m) (w / 2) in
     cond (eqb (w % 2) 0) member end
+
+-- the word with a bit put in at a place, and with the bit there taken out
+unfoldable pub openedAt : ℕ → ℕ → ℕ
+openedAt pos w = w % 2 ^ pos + w / 2 ^ pos * 2 ^ (pos + 1)
+
+unfoldable pub closedAt : ℕ → ℕ → ℕ
+closedAt pos w = w % 2 ^ pos + w / 2 ^ (pos + 1) * 2 ^ pos

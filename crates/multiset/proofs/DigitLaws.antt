@@ -22,7 +22,7 @@ use native.Mathlib.Nat.{
 }
 use native.Mathlib.Omega.{arith}
 use lib.ListN.{length, take, drop, replicate, length-append, length-replicate, length-drop, take-append-drop}
-use lib.Seq.{length-take-le, take-at, drop-at, take-add, take-append-seam, drop-append-seam}
+use lib.Seq.{length-take-le, take-at, drop-at, take-add, take-append-seam}
 use lib.Arith.{digits-div, digits-mod, digits-lt}
 use lib.Dec.{T, eqb, leb, eqb→eq, le→leb}
 use mir.Facts.{and-yes, yes-and}
@@ -98,9 +98,11 @@ length-grouped base size (suc n) ds = ap suc (length-grouped base size n (drop s
 pub below-spread : (base size : ℕ) (vs : List ℕ) → 0 < base → Below base (spread base size vs)
 unfolding spread
 below-spread base size [] p = tt
-below-spread base size (v ∷ vs) p = below-append base (digits base size v) (spread base size vs) (below-digits base size v p) (below-spread base size vs p)
+below-spread base size (v ∷ vs) p =
+    below-append base (digits base size v) (spread base size vs) (below-digits base size v p) (below-spread base size vs p)
 
-pub grouped-spread : (base size : ℕ) (vs rest : List ℕ) → 0 < base → Below (base ^ size) vs → grouped base size (length vs) (spread base size vs ++ rest) ≡ vs
+pub grouped-spread : (base size : ℕ) (vs rest : List ℕ) → 0 < base → Below (base ^ size) vs
+    → grouped base size (length vs) (spread base size vs ++ rest) ≡ vs
 unfolding grouped spread
 grouped-spread base size [] rest p b = refl
 grouped-spread base size (v ∷ vs) rest p b =
@@ -112,7 +114,8 @@ grouped-spread base size (v ∷ vs) rest p b =
       grouped-spread base size vs rest p (b .1),
     )
 
-pub spread-grouped : (base size n : ℕ) (ds : List ℕ) → Below base ds → n * size ≤ length ds → spread base size (grouped base size n ds) ≡ take (n * size) ds
+pub spread-grouped : (base size n : ℕ) (ds : List ℕ) → Below base ds → n * size ≤ length ds
+    → spread base size (grouped base size n ds) ≡ take (n * size) ds
 unfolding grouped spread
 spread-grouped base size zero ds b h = rw (zero-mul size)
 spread-grouped base size (suc n) ds b h =
@@ -157,9 +160,9 @@ pub take-padded : (n : ℕ) (l : List ℕ) → take (length l) (padded n l) ≡ 
 unfolding padded
 take-padded n l = take-append-seam l (replicate {A = ℕ} (n - length l) 0)
 
-pub padded-rest : (n : ℕ) (l : List ℕ) → T (allZero (drop (length l) (padded n l)))
+pub padded-rest : (n p : ℕ) (l : List ℕ) → length l ≡ p → T (allZero (drop p (padded n l)))
 unfolding padded
-padded-rest n l = rw (drop-append-seam l (replicate {A = ℕ} (n - length l) 0)) (allZero-zeros (n - length l))
+padded-rest n p l e = rw (drop-at l (replicate {A = ℕ} (n - length l) 0) p e) (allZero-zeros (n - length l))
 
 -- a list that is zeros from place p on is its first p places, padded
 pub padded-take : (n p : ℕ) (l : List ℕ) → length l ≡ n → p ≤ n → T (allZero (drop p l)) → padded n (take p l) ≡ l
@@ -196,7 +199,8 @@ ascending-highs k [] p a = tt
 ascending-highs k (x ∷ []) p a = tt
 ascending-highs k (x ∷ y ∷ ys) p a =
     let step : x / k ≤ y / k = le-div-iff-mul-le p .1 (omega (arith, div-mul-le-self x k, ascending-le x y ys a)) in
-    yes-and (leb (x / k) (y / k)) (ascending (highs k (y ∷ ys))) (le→leb (x / k) (y / k) step) (ascending-highs k (y ∷ ys) p (ascending-tail x (y ∷ ys) a))
+    yes-and (leb (x / k) (y / k)) (ascending (highs k (y ∷ ys))) (le→leb (x / k) (y / k) step)
+    (ascending-highs k (y ∷ ys) p (ascending-tail x (y ∷ ys) a))
 
 pub joined-parts : (k : ℕ) (xs : List ℕ) → 0 < k → joined k (highs k xs) (lows k xs) ≡ xs
 unfolding joined
@@ -233,3 +237,16 @@ unfolding joined
 below-joined n k [] rs a b = tt
 below-joined n k (m ∷ ms) [] a b = tt
 below-joined n k (m ∷ ms) (r ∷ rs) a b = (digits-lt (a .0) (b .0), below-joined n k ms rs (a .1) (b .1))
+
+-- pairs whose second parts are padded, both ways: the slots in use, and zeros up to n
+pub joined-padded : (k n : ℕ) (xs : List ℕ) → 0 < k → joined k (highs k xs) (padded n (lows k xs)) ≡ xs
+joined-padded k n xs p =
+    let same : length (highs k xs) ≡ length (lows k xs) = length-highs k xs ∙ sym (length-lows k xs) in
+    rw (joined-take k (highs k xs) (padded n (lows k xs)), same, take-padded n (lows k xs)) (joined-parts k xs p)
+
+pub padded-unused : (k n : ℕ) (xs : List ℕ) → T (allZero (drop (length (highs k xs)) (padded n (lows k xs))))
+padded-unused k n xs = padded-rest n (length (highs k xs)) (lows k xs) (length-lows k xs ∙ sym (length-highs k xs))
+
+pub padded-joined : (k n : ℕ) (ms rs : List ℕ) → length rs ≡ n → length ms ≤ n → Below k rs → T (allZero (drop (length ms) rs))
+    → padded n (lows k (joined k ms rs)) ≡ rs
+padded-joined k n ms rs e h b z = rw (lows-joined k ms rs (omega arith) b) (padded-take n (length ms) rs e h z)

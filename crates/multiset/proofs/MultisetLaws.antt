@@ -4,7 +4,7 @@ use mathlib.Core.Path.{_≡_, refl, sym, ap, ap₂, _∙_}
 use Prim.Native.Nat.{ℕ, zero, suc, _+_, _≤_, _<_, max}
 use mathlib.Core.Bool.{cond}
 use mathlib.Core.List.{List, [], _∷_, _++_}
-use mathlib.Core.Option.{Option, none, some}
+use mathlib.Core.Option.{none, some}
 use native.Mathlib.Nat.{add-zero, add-suc, suc-add, zero-add}
 use native.Mathlib.Decide.{decLe, ℕ-discrete}
 use native.Mathlib.Omega.{arith}
@@ -282,8 +282,22 @@ unfolding below copies
 below-suc x [] = omega arith
 below-suc x (y ∷ ys) = elim (decLe y x) [
   | yes l ↦ elim (ℕ-discrete x y) [
-    | yes e ↦ omega (arith, below-smaller (suc x) y ys (omega arith), below-other x y ys (omega arith), copies-cons x y ys, hit-equal x y e, below-suc x ys)
-    | no n ↦ omega (arith, below-smaller (suc x) y ys (omega arith), below-smaller x y ys (omega arith), copies-cons x y ys, hit-other x y n, below-suc x ys)
+    | yes e ↦ omega (
+      arith,
+      below-smaller (suc x) y ys (omega arith),
+      below-other x y ys (omega arith),
+      copies-cons x y ys,
+      hit-equal x y e,
+      below-suc x ys,
+    )
+    | no n ↦ omega (
+      arith,
+      below-smaller (suc x) y ys (omega arith),
+      below-smaller x y ys (omega arith),
+      copies-cons x y ys,
+      hit-other x y n,
+      below-suc x ys,
+    )
   ]
   | no g ↦ omega (
     arith,

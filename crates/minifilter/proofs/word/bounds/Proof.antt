@@ -1,0 +1,45 @@
+-- `minifilter::word::bounds` meets its contract: the zeros from a mini-bucket's first bit are its members'.
+use Prim.Native.Nat.{_/_, _^_, _<_}
+use native.Mathlib.Omega.{arith}
+use borrow.Author.Needs.{needs}
+use lib.Count.{trailing-le}
+use Rattle.minifilter.proofs.SelectLaws.{place-minisOf, past-minisOf}
+use Rattle.minifilter.proofs.word.bounds.Statement.{statement}
+use Rattle.minifilter.proofs.word.bounds.Tie as tie
+
+-- the first bit is one of the 64
+place-lt : (c : tie.After-first-place) → c .first-place .result < 64
+place-lt c =
+    let s = c .before in
+    omega (arith, place-minisOf (s .args .word) (s .args .mini) (s .fits .word .fits) (s .pre .0) (s .pre .1))
+
+first-place-requires : tie.Need-first-place-requires
+first-place-requires c κs = search needs
+
+sub-from : tie.Need-sub-from
+sub-from c = search needs
+
+cast-past : tie.Need-cast-past
+cast-past c = search needs
+
+shr-past : tie.Need-shr-past
+shr-past c = place-lt c
+
+add-past : tie.Need-add-past
+add-past c = omega (arith, place-lt c, trailing-le 64 (c .before .args .word / 2 ^ (c .first-place .result)))
+
+cast-t9 : tie.Need-cast-t9
+cast-t9 c = search needs
+
+cast-t10 : tie.Need-cast-t10
+cast-t10 c = omega (arith, place-lt c, trailing-le 64 (c .before .args .word / 2 ^ (c .first-place .result)))
+
+returns : tie.Need-returns
+returns c =
+    let s = c .before in (
+      omega arith,
+      past-minisOf (s .args .word) (s .args .mini) (s .fits .word .fits) (s .pre .0) (s .pre .1) (c .first-place .result) (c .first-place .ensures),
+    )
+
+pub bounds-spec : {M : Type 1} → statement M
+bounds-spec = tie.close (tie.spec first-place-requires sub-from cast-past shr-past add-past cast-t9 cast-t10 returns)

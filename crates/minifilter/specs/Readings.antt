@@ -1,0 +1,59 @@
+-- A bucket at layout 1 as the code's contracts speak of it: what the reader says, and the members of a bucket that was read.
+use mathlib.Core.Path.{_≡_}
+use Prim.Native.Nat.{ℕ}
+use mathlib.Core.List.{List, [], _∷_}
+use mathlib.Core.Option.{Option, none, some}
+use lib.ListN.{length, drop}
+use Rattle.multiset.specs.Multisets.{below, copies}
+use Rattle.multiset.specs.Digits.{spread, joined}
+use Rattle.crumbmap.specs.Layouts.{layout1}
+use Rattle.minifilter.specs.Words.{minisFrom}
+use Rattle.minifilter.specs.Buckets.{slotKeys, frontMembers, backMembers}
+use Rattle.minifilter.specs.declared.Reading.{Reading}
+use Rattle.minifilter.specs.declared.Reading.the-variants.{Members, Unsound}
+use Rattle.minifilter.specs.declared.Found.{Found}
+use Rattle.minifilter.specs.declared.Carried.{Carried}
+use Rattle.minifilter.specs.declared.Carried.the-variants.{Key, Nothing}
+
+-- "its member count, or unsound"
+abbrev pub readingOf : Option (List ℕ) → Reading
+readingOf none = Unsound
+readingOf (some xs) = Members (length xs)
+
+-- the list that was found, [] where none was
+abbrev pub listOf : Option (List ℕ) → List ℕ
+listOf none = []
+listOf (some xs) = xs
+
+-- each member's mini-bucket, in a word with 36 ones
+unfoldable pub minisOf : ℕ → List ℕ
+minisOf w = listOf (minisFrom 64 36 0 w)
+
+-- a front bucket's members
+unfoldable pub frontList : List ℕ → List ℕ
+frontList b = listOf (frontMembers layout1 b)
+
+-- a backyard bucket's members, whichever bucket it is
+unfoldable pub backList : List ℕ → List ℕ
+backList b = joined 16 (listOf (slotKeys layout1 22 b)) (spread 16 2 (drop 52 b))
+
+-- 64 bytes that the reader found sound
+pub record SoundFront (b : List ℕ) : Type 0 where
+  pub long : length b ≡ 64
+  pub sound : frontMembers layout1 b ≡ some (frontList b)
+
+pub record SoundBack (b : List ℕ) : Type 0 where
+  pub size : ℕ
+  pub bucket : ℕ
+  pub long : length b ≡ 64
+  pub sound : backMembers layout1 size bucket b ≡ some (backList b)
+
+-- "the lowest slot" of x among the members xs, "and the number of equal copies there"
+pub record FoundIn (x : ℕ) (xs : List ℕ) (r : Found) : Type 0 where
+  pub from : r .slot ≡ below x xs
+  pub many : r .copies ≡ copies x xs
+
+-- the head of a list of keys
+abbrev pub firstOf : List ℕ → Carried
+firstOf [] = Nothing
+firstOf (x ∷ xs) = Key x

@@ -1,0 +1,14 @@
+-- Select: the place of the one bit of a rank. "A table gives the place of the one bit of each rank 0 to 7 in every byte value, 8 where none:
+-- 2,048 entries": the entry of byte value w and rank r is `selectIn 8 w r`.
+use Prim.Native.Nat.{ℕ, zero, suc, _/_, _%_}
+
+-- one place further on, in a word whose lowest bit is b: rank 0 stands here where b is one
+abbrev pub above : ℕ → ℕ → (ℕ → ℕ) → ℕ
+above zero r rest = suc (rest r)
+above (suc b) zero rest = zero
+above (suc b) (suc r) rest = suc (rest r)
+
+-- the place of the one bit of rank r (from 0) among the d lowest bits of w, d where there is none
+unfoldable pub selectIn : ℕ → ℕ → ℕ → ℕ
+selectIn zero w r = zero
+selectIn (suc d) w r = above (w % 2) r (selectIn d (w / 2))
