@@ -7,9 +7,9 @@ use lib.Dec.{T}
 use Rattle.multiset.specs.Multisets.{copies, ascending}
 use Rattle.crumbmap.specs.Layouts.{Layout}
 use Rattle.crumbmap.specs.Fingerprints.{frontOf, keyOf}
-use Rattle.breadcrumb.specs.Results.{accepted}
-use Rattle.breadcrumb.specs.Machine.{Place, nowhere}
-use Rattle.breadcrumb.specs.Calls.{askOf, countOf}
+use Rattle.machine.specs.Results.{accepted}
+use Rattle.machine.specs.Machine.{Place, nowhere}
+use Rattle.machine.specs.Calls.{askOf, countOf}
 use Rattle.history.specs.Histories.{History, Started, blocks, bytesAfter}
 use Rattle.history.specs.Ledgers.{fingerprintOf, ledger, smaller}
 use Rattle.history.specs.Walks.{FullWalk}

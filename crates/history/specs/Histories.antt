@@ -5,9 +5,9 @@ use mathlib.Core.List.{List}
 use mathlib.Core.Option.{Option·getD}
 use lib.ListN.{length}
 use Rattle.crumbmap.specs.Layouts.{Layout}
-use Rattle.breadcrumb.specs.Results.{number}
-use Rattle.breadcrumb.specs.Images.{sizeOf}
-use Rattle.breadcrumb.specs.Calls.{freshOf, insertOf, deleteOf, askOf, countOf, pageOf, mergeOf, written, imageOf}
+use Rattle.machine.specs.Results.{number}
+use Rattle.machine.specs.Images.{sizeOf}
+use Rattle.machine.specs.Calls.{freshOf, insertOf, deleteOf, askOf, countOf, pageOf, mergeOf, written, imageOf}
 
 -- "inserts, deletes, asks, counts and pages": a hash, or a page's start and the length of its output
 pub data Call : Type 0 where

@@ -4,9 +4,9 @@ use mathlib.Core.Path.{_≡_}
 use Prim.Native.Nat.{ℕ}
 use mathlib.Core.List.{List, _++_}
 use Rattle.crumbmap.specs.Layouts.{Layout, fronts}
-use Rattle.breadcrumb.specs.Results.{accepted}
-use Rattle.breadcrumb.specs.Pages.{Run}
-use Rattle.breadcrumb.specs.Calls.{pageOf}
+use Rattle.machine.specs.Results.{accepted}
+use Rattle.machine.specs.Pages.{Run}
+use Rattle.machine.specs.Calls.{pageOf}
 use Rattle.history.specs.Histories.{Call, History, insert, delete, ask, count, page, followed, blocks, numberOf, bytesAfter}
 use Rattle.history.specs.Ledgers.{ledger}
 

@@ -12,7 +12,7 @@ use borrow.Author.Tests.{ltb-true, ltb-false, lt-ltb, le-ltb, eqb-true, eqb-fals
 use Rattle.multiset.specs.Multisets.{copies, atLeast, ascending}
 use Rattle.multiset.proofs.MultisetLaws.{hit, Below, hit-other, copies-cons, copies-added, length-added, ascending-added, below-added}
 use Rattle.minifilter.specs.Buckets.{carrying}
-use Rattle.breadcrumb.specs.Bags.{addedAll, has, fromFirst}
+use Rattle.machine.specs.Bags.{addedAll, has, fromFirst}
 
 -- the first member carries the crumb, or not
 data Carries (c y : ℕ) (ys : List ℕ) : Type 0 where

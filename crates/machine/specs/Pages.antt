@@ -6,8 +6,8 @@ use lib.ListN.{length}
 use lib.Dec.{leb, ltb, eqb}
 use Rattle.crumbmap.specs.Layouts.{Layout, fronts}
 use Rattle.crumbmap.specs.Fingerprints.{fingerprint}
-use Rattle.breadcrumb.specs.Results.{Result, accepted, refused, andThen}
-use Rattle.breadcrumb.specs.Machine.{membersAt}
+use Rattle.machine.specs.Results.{Result, accepted, refused, andThen}
+use Rattle.machine.specs.Machine.{membersAt}
 
 -- the fingerprints of a run of whole buckets, and "the next bucket"
 pub record Run : Type 0 where

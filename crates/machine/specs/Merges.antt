@@ -2,10 +2,10 @@
 use Prim.Native.Nat.{ℕ, zero, suc}
 use mathlib.Core.List.{List, [], _∷_}
 use Rattle.crumbmap.specs.Layouts.{Layout, fronts}
-use Rattle.breadcrumb.specs.Results.{Result, accepted, andThen}
-use Rattle.breadcrumb.specs.Images.{emptyImage}
-use Rattle.breadcrumb.specs.Machine.{insertAt, membersAt}
-use Rattle.breadcrumb.specs.Checks.{checkSized}
+use Rattle.machine.specs.Results.{Result, accepted, andThen}
+use Rattle.machine.specs.Images.{emptyImage}
+use Rattle.machine.specs.Machine.{insertAt, membersAt}
+use Rattle.machine.specs.Checks.{checkSized}
 
 module _ (L : Layout) where
   -- inserts keys of front bucket f one after the other, up to the first refusal

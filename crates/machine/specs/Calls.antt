@@ -6,12 +6,12 @@ use lib.ListN.{length, drop}
 use lib.Dec.{eqb}
 use Rattle.crumbmap.specs.Layouts.{Layout}
 use Rattle.crumbmap.specs.Fingerprints.{frontOf, keyOf}
-use Rattle.breadcrumb.specs.Results.{Result, accepted, refused, andThen}
-use Rattle.breadcrumb.specs.Images.{sized, emptyImage}
-use Rattle.breadcrumb.specs.Machine.{Change, Asked, Counted, insertAt, deleteAt, askAt, countAt}
-use Rattle.breadcrumb.specs.Pages.{Run, pageFrom}
-use Rattle.breadcrumb.specs.Checks.{checkSized}
-use Rattle.breadcrumb.specs.Merges.{mergeSized}
+use Rattle.machine.specs.Results.{Result, accepted, refused, andThen}
+use Rattle.machine.specs.Images.{sized, emptyImage}
+use Rattle.machine.specs.Machine.{Change, Asked, Counted, insertAt, deleteAt, askAt, countAt}
+use Rattle.machine.specs.Pages.{Run, pageFrom}
+use Rattle.machine.specs.Checks.{checkSized}
+use Rattle.machine.specs.Merges.{mergeSized}
 
 module _ (L : Layout) where
   -- the image that a fresh leaves

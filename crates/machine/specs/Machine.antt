@@ -10,9 +10,9 @@ use Rattle.multiset.specs.Multisets.{added, removed, copies, slotOf, largest}
 use Rattle.crumbmap.specs.Layouts.{Layout}
 use Rattle.crumbmap.specs.CrumbMap.{firstBucket, secondBucket, firstCrumb, secondCrumb, bucketOf, crumbOf}
 use Rattle.minifilter.specs.Buckets.{carrying}
-use Rattle.breadcrumb.specs.Results.{Result, accepted, refused, andThen}
-use Rattle.breadcrumb.specs.Images.{frontAt, backAt, putFront, putBack}
-use Rattle.breadcrumb.specs.Bags.{addedAll, has, fromFirst}
+use Rattle.machine.specs.Results.{Result, accepted, refused, andThen}
+use Rattle.machine.specs.Images.{frontAt, backAt, putFront, putBack}
+use Rattle.machine.specs.Bags.{addedAll, has, fromFirst}
 
 -- an insert's or a delete's answer, and the image after it
 pub record Change : Type 0 where
@@ -47,6 +47,11 @@ counted n c = accepted (record { reads = n; copies = c })
 abbrev pub found : {A : Type 0} → Option ℕ → (ℕ → Result A) → Result A → Result A
 found none at other = other
 found (some i) at other = at i
+
+-- how many members a bucket has
+abbrev pub occupancy : Result (List ℕ) → ℕ
+occupancy (accepted xs) = length xs
+occupancy (refused n i) = 0
 
 module _ (L : Layout) (B f : ℕ) where
   -- "b0 and b1 are read"
@@ -123,3 +128,10 @@ module _ (L : Layout) (B f : ℕ) where
       andThen (frontAt L f img) λ xs.
       cond (ltb (length xs) (L .frontSlots)) (accepted xs)
       (andThen (backyard img) λ b. accepted (addedAll xs (overflow b)))
+
+  -- "full": Front(f) and both of its backyard buckets have no slot left
+  unfoldable pub full : List ℕ → Bool
+  full img =
+      eqb (occupancy (frontAt L f img)) (L .frontSlots)
+      && eqb (occupancy (backAt L B (firstBucket f) img)) (L .backSlots)
+      && eqb (occupancy (backAt L B (secondBucket B f) img)) (L .backSlots)

@@ -8,8 +8,8 @@ use lib.Dec.{leb, eqb}
 use Rattle.multiset.specs.Multisets.{largest}
 use Rattle.crumbmap.specs.Layouts.{Layout, fronts, backyards}
 use Rattle.crumbmap.specs.CrumbMap.{home}
-use Rattle.breadcrumb.specs.Results.{Result, accepted, refused}
-use Rattle.breadcrumb.specs.Images.{frontAt, backAt}
+use Rattle.machine.specs.Results.{Result, accepted, refused}
+use Rattle.machine.specs.Images.{frontAt, backAt}
 
 -- nothing was found, or the number with where it was
 abbrev pub unless : Option ℕ → ℕ → Result (Unit {0}) → Result (Unit {0})

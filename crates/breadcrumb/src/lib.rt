@@ -1,1 +1,0 @@
-// The catalogue: one lent image, and the calls on it.

@@ -1,0 +1,182 @@
+-- An insert keeps the invariant: it is accepted and there is one copy more, or it is refused with 4 and the front bucket and both
+-- its backyard buckets are full.
+use mathlib.Core.Path.{_≡_, refl, ap, _∙_}
+use Prim.Native.Nat.{ℕ, _+_, _*_, _≤_, _<_, max}
+use mathlib.Core.Bool.{Bool, true, false, _&&_, true≢false}
+use mathlib.Core.List.{List}
+use native.Mathlib.Omega.{arith}
+use native.Mathlib.Decide.{ℕ-discrete}
+use lib.ListN.{length}
+use lib.Dec.{ltb, eqb}
+use borrow.Author.Tests.{ltb-true, ltb-false, lt-ltb, le-ltb, eq-eqb, ne-eqb}
+use Rattle.multiset.specs.Multisets.{added, removed, copies, largest}
+use Rattle.multiset.proofs.MultisetLaws.{
+  hit,
+  Below,
+  copies-added,
+  copies-removed,
+  length-added,
+  length-removed,
+  ascending-added,
+  ascending-removed,
+  below-added,
+  below-removed,
+  below-copies,
+  largest-added,
+  largest-max,
+  copies-largest,
+}
+use Rattle.crumbmap.specs.Layouts.{Layout, keys, fronts}
+use Rattle.crumbmap.specs.CrumbMap.{bucketOf, crumbOf}
+use Rattle.minifilter.specs.Buckets.{Fits64}
+use Rattle.minifilter.proofs.BucketLaws.{FrontList}
+use Rattle.machine.specs.Results.{accepted, refused}
+use Rattle.machine.specs.Images.{frontAt, backAt, putFront, putBack}
+use Rattle.machine.specs.Machine.{insertAt, full}
+use Rattle.machine.proofs.Invariant.{frontView, Good, OneMore}
+use Rattle.machine.proofs.Overflow.{held, read-held, held-list}
+use Rattle.machine.proofs.Members.{hit-of, hit-equal, hit-le-one, largest-le, cond-choice, front-added}
+use Rattle.machine.proofs.Changes.{FrontWritten, OneOver, front-written, back-joined}
+
+pub data Inserted (L : Layout) (B f x : ℕ) (img : List ℕ) : Type 0 where
+  took : (a : ℕ) (now : List ℕ) → insertAt L B f x img ≡ accepted (record { answer = a; image = now })
+      → full L B f img ≡ false → Good L B now → OneMore L B f x img now → Inserted L B f x img
+  stuck : insertAt L B f x img ≡ refused 4 0 → full L B f img ≡ true → Inserted L B f x img
+
+module _ (L : Layout) (fits : Fits64 L) (B f x : ℕ) (img : List ℕ) (good : Good L B img) (h : f < fronts B) (k : x < keys L) where
+  abbrev xs : List ℕ
+  xs = frontView L B f img
+
+  abbrev ys : Bool → List ℕ
+  ys = held L B f img
+
+  read : frontAt L f img ≡ accepted xs
+  read = good .front f h
+
+  read-back : (t : Bool) → backAt L B (bucketOf t B f) img ≡ accepted (ys t)
+  read-back = read-held L B f img good h
+
+  abbrev bothFull : Bool
+  bothFull = eqb (length (ys true)) (L .backSlots) && eqb (length (ys false)) (L .backSlots)
+
+  list : FrontList L xs
+  list = good .frontGood f h
+
+  full-is : full L B f img ≡ (eqb (length xs) (L .frontSlots) && eqb (length (ys true)) (L .backSlots) && eqb (length (ys false)) (L .backSlots))
+  unfolding full
+  full-is = rw (read, read-back true, read-back false)
+
+  -- the front bucket has a slot left
+  joins : length xs < L .frontSlots → Inserted L B f x img
+  unfolding insertAt
+  joins r =
+      took 0 (putFront L f (added x xs) img) (rw (read, lt-ltb (length xs) (L .frontSlots) r))
+      (rw (full-is, ne-eqb (length xs) (L .frontSlots) (omega arith))) (w .good) record {
+        here = λ y. omega (arith, ap (copies y) (w .here), copies-added y x xs, w .parts true f y, w .parts false f y);
+        elsewhere = λ e y l n. omega (arith, ap (copies y) (w .elsewhere e n), w .parts true e y, w .parts false e y);
+      }
+    where
+      w : FrontWritten L B f (added x xs) img (putFront L f (added x xs) img)
+      w = front-written L fits B f h img good (added x xs) (front-added L x xs list k r) (λ y o. absurd (omega (arith, good .turn f y h o .0)))
+
+  -- no slot left, in front and in either backyard bucket
+  stays : length xs ≡ L .frontSlots → bothFull ≡ true → Inserted L B f x img
+  unfolding insertAt
+  stays s q =
+      stuck (rw (read, le-ltb (length xs) (L .frontSlots) (omega arith), read-back true, read-back false, q))
+      (rw (full-is, eq-eqb (length xs) (L .frontSlots) s) q)
+
+  -- what goes, and what remains in front
+  abbrev top : ℕ
+  top = largest (added x xs)
+
+  abbrev rest : List ℕ
+  rest = removed top (added x xs)
+
+  abbrev mid : List ℕ
+  mid = putFront L f rest img
+
+  top-in : 0 < copies top (added x xs)
+  top-in = copies-largest (added x xs) (omega (arith, length-added x xs))
+
+  top-max : top ≡ max x (largest xs)
+  top-max = largest-added x xs (list .order)
+
+  length-rest : length rest ≡ length xs
+  length-rest = omega (arith, length-added x xs, length-removed top (added x xs) top-in)
+
+  copies-rest : (z : ℕ) → hit z top + copies z rest ≡ hit z x + copies z xs
+  copies-rest z = omega (arith, copies-added z x xs, copies-removed z top (added x xs) top-in)
+
+  range : Below (keys L) (added x xs)
+  range = below-added (keys L) x xs k (list .range)
+
+  rest-list : FrontList L rest
+  rest-list = record {
+    order = ascending-removed top (added x xs) (ascending-added x xs (list .order));
+    range = below-removed (keys L) top (added x xs) range;
+    room = omega (arith, length-rest, list .room);
+  }
+
+  -- no member that remains is larger than the largest before
+  rest-le : largest rest ≤ largest xs
+  rest-le = largest-le (largest xs) rest λ z o. elim (ℕ-discrete (copies z xs) 0) [
+    | yes p ↦
+        let e : z ≡ x = hit-equal z x (omega (arith, copies-rest z)) in
+        let n : z ≡ top → ⊥ = λ q. omega (arith, hit-of z top q, hit-le-one z x, copies-rest z) in
+        omega (arith, top-max)
+    | no n ↦ largest-max z xs (list .order) (omega arith)
+  ]
+
+  -- "the largest of Front(f) and g goes to" the backyard bucket of choice t
+  abbrev now : Bool → List ℕ
+  now t = putBack L B (bucketOf t B f) (added (top * 16 + crumbOf t f) (ys t)) mid
+
+  spilled : (t : Bool) → length xs ≡ L .frontSlots → length (ys t) < L .backSlots → Good L B (now t) × OneMore L B f x img (now t)
+  spilled t s r = (
+    o .0,
+    record {
+      here = λ y. omega (arith, ap (copies y) (o .1 .views f h ∙ w .here), o .1 .here y, copies-rest y, w .parts true f y, w .parts false f y);
+      elsewhere = λ e y l n.
+          omega (arith, ap (copies y) (o .1 .views e l ∙ w .elsewhere e n), o .1 .elsewhere e y l n, w .parts true e y, w .parts false e y);
+    },
+  )
+    where
+      w : FrontWritten L B f rest img mid
+      w = front-written L fits B f h img good rest rest-list (λ y o. (omega (arith, length-rest), omega (arith, rest-le, good .turn f y h o .1)))
+
+      o : Good L B (now t) × OneOver L B f top mid (now t)
+      o = rw (w .backs (bucketOf t B f)) at (back-joined L fits B f top h mid (w .good) t (below-copies (keys L) top (added x xs) range top-in)
+          (rw (w .backs (bucketOf t B f)) r) (rw (w .here) (omega (arith, length-rest))) (rw (w .here) (omega (arith, rest-le, top-max))))
+
+  -- a slot is left in the bucket that is chosen
+  chosen : (t : Bool) → bothFull ≡ false → ltb (length (ys true)) (length (ys false)) ≡ t → length (ys t) < L .backSlots
+  chosen true q e = omega (arith, ltb-true (length (ys true)) (length (ys false)) e, held-list L B f img good h false .room)
+  chosen false q e =
+      let l : length (ys false) ≤ length (ys true) = ltb-false (length (ys true)) (length (ys false)) e in
+      let m : length (ys true) ≤ L .backSlots = held-list L B f img good h true .room in
+      elim (ℕ-discrete (length (ys false)) (L .backSlots)) [
+        | yes p ↦ absurd (true≢false (rw (eq-eqb (length (ys true)) (L .backSlots) (omega arith), eq-eqb (length (ys false)) (L .backSlots) p) at q))
+        | no n ↦ omega arith
+      ]
+
+  spills : (t : Bool) → length xs ≡ L .frontSlots → bothFull ≡ false
+      → ltb (length (ys true)) (length (ys false)) ≡ t → Inserted L B f x img
+  unfolding insertAt
+  spills t s q e =
+      let o : Good L B (now t) × OneMore L B f x img (now t) = spilled t s (chosen t q e) in
+      took (1 + bucketOf t B f) (now t)
+      (rw (read, le-ltb (length xs) (L .frontSlots) (omega arith), read-back true, read-back false, q, e, cond-choice ys t))
+      (rw (full-is, eq-eqb (length xs) (L .frontSlots) s) q) (o .0) (o .1)
+
+  at-full : (b : Bool) → bothFull ≡ b → length xs ≡ L .frontSlots → Inserted L B f x img
+  at-full true q s = stays s q
+  at-full false q s = spills (ltb (length (ys true)) (length (ys false))) s q refl
+
+  by-room : (b : Bool) → ltb (length xs) (L .frontSlots) ≡ b → Inserted L B f x img
+  by-room true e = joins (ltb-true (length xs) (L .frontSlots) e)
+  by-room false e = at-full bothFull refl (omega (arith, ltb-false (length xs) (L .frontSlots) e, list .room))
+
+module _ (L : Layout) (fits : Fits64 L) where
+  pub insert-keeps : (B f x : ℕ) (img : List ℕ) → Good L B img → f < fronts B → x < keys L → Inserted L B f x img
+  insert-keeps B f x img good h k = by-room L fits B f x img good h k (ltb (length (frontView L B f img)) (L .frontSlots)) refl

@@ -1,0 +1,107 @@
+-- A bucket's list after a member joined it or left it: it can still stand there, and the members of other crumbs are as they were.
+use mathlib.Core.Path.{_≡_, refl}
+use Prim.Native.Nat.{ℕ, _+_, _*_, _%_, _≤_, _<_}
+use mathlib.Core.Bool.{Bool, true, false, cond}
+use mathlib.Core.List.{List, [], _∷_}
+use native.Mathlib.Omega.{arith}
+use native.Mathlib.Decide.{ℕ-discrete}
+use lib.ListN.{length}
+use lib.Dec.{T, leb, eqb}
+use mir.Facts.{and-yes, yes-and}
+use Rattle.multiset.specs.Multisets.{added, removed, copies, largest}
+use Rattle.multiset.proofs.MultisetLaws.{
+  hit,
+  hit-same,
+  hit-other,
+  length-added,
+  length-removed,
+  ascending-added,
+  ascending-removed,
+  below-added,
+  below-removed,
+  copies-largest,
+}
+use Rattle.crumbmap.specs.Layouts.{Layout, keys, fronts}
+use Rattle.crumbmap.specs.CrumbMap.{home, bucketOf, crumbOf}
+use Rattle.crumbmap.proofs.CrumbMapLaws.{crumbOf-lt, home-bucketOf}
+use Rattle.minifilter.specs.Buckets.{isSome, valid}
+use Rattle.minifilter.proofs.BucketLaws.{FrontList, BackList}
+
+pub hit-of : (x y : ℕ) → x ≡ y → hit x y ≡ 1
+hit-of x y p = rw p (hit-same y)
+
+pub hit-equal : (x y : ℕ) → 0 < hit x y → x ≡ y
+hit-equal x y h = elim (ℕ-discrete x y) [ yes p ↦ p | no n ↦ absurd (omega (arith, hit-other x y n, h)) ]
+
+pub hit-le-one : (x y : ℕ) → hit x y ≤ 1
+hit-le-one x y = elim (ℕ-discrete x y) [ yes p ↦ omega (arith, hit-of x y p) | no n ↦ omega (arith, hit-other x y n) ]
+
+-- what no member exceeds, the largest does not
+pub largest-le : (k : ℕ) (xs : List ℕ) → ((z : ℕ) → 0 < copies z xs → z ≤ k) → largest xs ≤ k
+unfolding largest
+largest-le k [] m = omega arith
+largest-le k (x ∷ xs) m = m (largest (x ∷ xs)) (copies-largest (x ∷ xs) (omega arith))
+
+-- one of two lists, by the choice
+pub cond-choice : (held : Bool → List ℕ) (t : Bool) → cond t (held true) (held false) ≡ held t
+cond-choice held true = refl
+cond-choice held false = refl
+
+-- the choice's crumb, read back from a member
+pub crumb-back : (t : Bool) (f v : ℕ) → (v * 16 + crumbOf t f) % 16 ≡ crumbOf t f
+crumb-back t f v = omega (arith, crumbOf-lt t f)
+
+module _ (B j : ℕ) where
+  valid-cons : (y : ℕ) (ys : List ℕ) → T (isSome (home B j (y % 16))) → T (valid B j ys) → T (valid B j (y ∷ ys))
+  unfolding valid
+  valid-cons y ys h v = yes-and (isSome (home B j (y % 16))) (valid B j ys) h v
+
+  either : (b : Bool) (xs ys : List ℕ) → T (valid B j xs) → T (valid B j ys) → T (valid B j (cond b xs ys))
+  either true xs ys p q = p
+  either false xs ys p q = q
+
+  valid-added : (y : ℕ) (ys : List ℕ) → T (isSome (home B j (y % 16))) → T (valid B j ys) → T (valid B j (added y ys))
+  unfolding valid added
+  valid-added y [] h v = valid-cons y [] h tt
+  valid-added y (z ∷ zs) h v =
+      let p : T (isSome (home B j (z % 16))) × T (valid B j zs) = and-yes (isSome (home B j (z % 16))) (valid B j zs) v in
+      either (leb y z) (y ∷ z ∷ zs) (z ∷ added y zs) (valid-cons y (z ∷ zs) h v) (valid-cons z (added y zs) (p .0) (valid-added y zs h (p .1)))
+
+  valid-removed : (y : ℕ) (ys : List ℕ) → T (valid B j ys) → T (valid B j (removed y ys))
+  unfolding valid removed
+  valid-removed y [] v = tt
+  valid-removed y (z ∷ zs) v =
+      let p : T (isSome (home B j (z % 16))) × T (valid B j zs) = and-yes (isSome (home B j (z % 16))) (valid B j zs) v in
+      either (eqb y z) zs (z ∷ removed y zs) (p .1) (valid-cons z (removed y zs) (p .0) (valid-removed y zs (p .1)))
+
+module _ (L : Layout) where
+  pub front-added : (x : ℕ) (xs : List ℕ) → FrontList L xs → x < keys L → length xs < L .frontSlots → FrontList L (added x xs)
+  front-added x xs l k r = record {
+    order = ascending-added x xs (l .order);
+    range = below-added (keys L) x xs k (l .range);
+    room = omega (arith, length-added x xs);
+  }
+
+  pub front-removed : (x : ℕ) (xs : List ℕ) → FrontList L xs → 0 < copies x xs → FrontList L (removed x xs)
+  front-removed x xs l c = record {
+    order = ascending-removed x xs (l .order);
+    range = below-removed (keys L) x xs (l .range);
+    room = omega (arith, length-removed x xs c, l .room);
+  }
+
+  module _ (B f v : ℕ) (t : Bool) (ys : List ℕ) (l : BackList L B (bucketOf t B f) ys) where
+    pub back-added : f < fronts B → v < keys L → length ys < L .backSlots → BackList L B (bucketOf t B f) (added (v * 16 + crumbOf t f) ys)
+    back-added h k r = record {
+      order = ascending-added (v * 16 + crumbOf t f) ys (l .order);
+      range = below-added (keys L * 16) (v * 16 + crumbOf t f) ys (omega (arith, crumbOf-lt t f)) (l .range);
+      room = omega (arith, length-added (v * 16 + crumbOf t f) ys);
+      crumbs = valid-added B (bucketOf t B f) (v * 16 + crumbOf t f) ys (rw (crumb-back t f v, home-bucketOf t B f h) tt) (l .crumbs);
+    }
+
+    pub back-removed : 0 < copies (v * 16 + crumbOf t f) ys → BackList L B (bucketOf t B f) (removed (v * 16 + crumbOf t f) ys)
+    back-removed c = record {
+      order = ascending-removed (v * 16 + crumbOf t f) ys (l .order);
+      range = below-removed (keys L * 16) (v * 16 + crumbOf t f) ys (l .range);
+      room = omega (arith, length-removed (v * 16 + crumbOf t f) ys c, l .room);
+      crumbs = valid-removed B (bucketOf t B f) (v * 16 + crumbOf t f) ys (l .crumbs);
+    }

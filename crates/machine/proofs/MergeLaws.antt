@@ -1,0 +1,180 @@
+-- Fresh and merge: the empty image is good and holds nothing; a merge of two good images is good and holds the members of both,
+-- or is refused with 4. Main results: `empty-good`, `empty-total`, `merge-good`.
+use mathlib.Core.Path.{_≡_, refl, sym, _∙_}
+use Prim.Native.Nat.{ℕ, zero, suc, _+_, _≤_, _<_}
+use mathlib.Core.Bool.{Bool, true, false}
+use mathlib.Core.List.{List, [], _∷_}
+use native.Mathlib.Omega.{arith}
+use lib.ListN.{length}
+use lib.Dec.{eqb}
+use lib.Arith.{lt-of-le-ne}
+use borrow.Author.Tests.{eqb-true, eqb-false}
+use Rattle.multiset.specs.Multisets.{copies, ascending}
+use Rattle.multiset.proofs.MultisetLaws.{Below, copies-cons}
+use Rattle.crumbmap.specs.Layouts.{Layout, keys, fronts, backyards}
+use Rattle.crumbmap.specs.CrumbMap.{bucketOf}
+use Rattle.crumbmap.proofs.CrumbMapLaws.{bucketOf-lt}
+use Rattle.minifilter.specs.Buckets.{Fits64, valid}
+use Rattle.minifilter.proofs.BucketLaws.{FrontList, BackList, length-frontBytes, length-backBytes, frontMembers-frontBytes, backMembers-backBytes}
+use Rattle.machine.specs.Results.{accepted, refused}
+use Rattle.machine.specs.Images.{frontAt, backAt, emptyImage}
+use Rattle.machine.specs.Machine.{insertAt, membersAt}
+use Rattle.machine.specs.Merges.{insertAll, mergeFrom, mergeSized}
+use Rattle.machine.proofs.ImageLaws.{sizeOf-some, sizeOf-lengthOf, length-empty, bucketAt-empty-front, bucketAt-empty-back}
+use Rattle.machine.proofs.Invariant.{Good, OneMore, frontView, backView, part, total}
+use Rattle.machine.proofs.InsertLaws.{Inserted, took, stuck, insert-keeps}
+use Rattle.machine.proofs.PageLaws.{Members, members-good}
+use Rattle.machine.proofs.CheckLaws.{check-good}
+
+-- a list of keys of front bucket f put into an image: `now` holds them too, and is else alike
+pub record More (L : Layout) (B f : ℕ) (xs old now : List ℕ) : Type 0 where
+  pub here : (y : ℕ) → total L B f y now ≡ copies y xs + total L B f y old
+  pub elsewhere : (e y : ℕ) → e < fronts B → (e ≡ f → ⊥) → total L B e y now ≡ total L B e y old
+
+pub data InsertedAll (L : Layout) (B f : ℕ) (xs img : List ℕ) : Type 0 where
+  took-all : (now : List ℕ) → insertAll L B f xs img ≡ accepted now → Good L B now → More L B f xs img now → InsertedAll L B f xs img
+  stuck-in : insertAll L B f xs img ≡ refused 4 0 → InsertedAll L B f xs img
+
+-- front buckets f, f + 1, .. of a and b put into an image
+pub record Both (L : Layout) (B f : ℕ) (a b old now : List ℕ) : Type 0 where
+  pub before : (e y : ℕ) → e < f → total L B e y now ≡ total L B e y old
+  pub from : (e y : ℕ) → f ≤ e → e < fronts B → total L B e y now ≡ total L B e y a + total L B e y b + total L B e y old
+
+pub data Merged (L : Layout) (B n f : ℕ) (a b img : List ℕ) : Type 0 where
+  joined : (now : List ℕ) → mergeFrom L B n f a b img ≡ accepted now → Good L B now → Both L B f a b img now → Merged L B n f a b img
+  overfull : mergeFrom L B n f a b img ≡ refused 4 0 → Merged L B n f a b img
+
+-- a merge: accepted with the members of both, or full
+pub data MergedWhole (L : Layout) (B : ℕ) (a b : List ℕ) : Type 0 where
+  whole : (now : List ℕ) → mergeSized L B a b ≡ accepted now → Good L B now
+      → ((f x : ℕ) → f < fronts B → total L B f x now ≡ total L B f x a + total L B f x b) → MergedWhole L B a b
+  no-space : mergeSized L B a b ≡ refused 4 0 → MergedWhole L B a b
+
+module _ (L : Layout) (fits : Fits64 L) where
+  -- ---- the empty image
+
+  no-front : FrontList L []
+  unfolding ascending
+  no-front = record { order = tt; range = tt; room = omega arith }
+
+  no-back : (B j : ℕ) → BackList L B j []
+  unfolding ascending valid
+  no-back B j = record { order = tt; range = tt; room = omega arith; crumbs = tt }
+
+  front-empty : (B f : ℕ) → f < fronts B → frontAt L f (emptyImage L B) ≡ accepted []
+  unfolding frontAt
+  front-empty B f h = rw (bucketAt-empty-front L B f (length-frontBytes L fits [] (omega arith)) (length-backBytes L fits [] (omega arith)) h, frontMembers-frontBytes L fits [] no-front) refl
+
+  back-empty : (B j : ℕ) → j < backyards B → backAt L B j (emptyImage L B) ≡ accepted []
+  unfolding backAt
+  back-empty B j h = rw (bucketAt-empty-back L B j (length-frontBytes L fits [] (omega arith)) (length-backBytes L fits [] (omega arith)) h, backMembers-backBytes L fits B j [] (no-back B j)) refl
+
+  frontView-empty : (B f : ℕ) → f < fronts B → frontView L B f (emptyImage L B) ≡ []
+  unfolding frontView
+  frontView-empty B f h = rw (front-empty B f h) refl
+
+  backView-empty : (B j : ℕ) → j < backyards B → backView L B j (emptyImage L B) ≡ []
+  unfolding backView
+  backView-empty B j h = rw (back-empty B j h) refl
+
+  part-empty : (t : Bool) (B f x : ℕ) → f < fronts B → part L B t f x (emptyImage L B) ≡ 0
+  unfolding part copies
+  part-empty t B f x h = rw (backView-empty B (bucketOf t B f) (bucketOf-lt t B f h)) refl
+
+  pub empty-total : (B f x : ℕ) → f < fronts B → total L B f x (emptyImage L B) ≡ 0
+  empty-total B f x h = rw (frontView-empty B f h) (omega (arith, part-empty true B f x h, part-empty false B f x h, nothing))
+    where
+      nothing : copies x [] ≡ 0
+      nothing = unfold copies in refl
+
+  pub empty-good : (B : ℕ) → 0 < B → B ≤ 65536 → Good L B (emptyImage L B)
+  empty-good B p h =
+      record {
+        size = rw (length-empty L B (length-frontBytes L fits [] (omega arith)) (length-backBytes L fits [] (omega arith))) (sizeOf-lengthOf B p h);
+        front = λ f l. rw (frontView-empty B f l) (front-empty B f l);
+        frontGood = λ f l. rw (frontView-empty B f l) no-front;
+        back = λ j l. rw (backView-empty B j l) (back-empty B j l);
+        backGood = λ j l. rw (backView-empty B j l) (no-back B j);
+        turn = λ f x l c. absurd (omega (arith, part-empty true B f x l, part-empty false B f x l));
+      }
+
+  -- ---- merge
+
+  insertAll-keeps : (B f : ℕ) (xs img : List ℕ) → Good L B img → f < fronts B → Below (keys L) xs → InsertedAll L B f xs img
+  unfolding insertAll
+  insertAll-keeps B f [] img good h b = took-all img refl good (record { here = λ y. omega (arith, nothing y); elsewhere = λ e y l n. refl })
+    where
+      nothing : (y : ℕ) → copies y [] ≡ 0
+      nothing y = unfold copies in refl
+  insertAll-keeps B f (x ∷ xs) img good h b = first (insert-keeps L fits B f x img good h (b .0)) (λ now g. insertAll-keeps B f xs now g h (b .1))
+    where
+      rest : (a : ℕ) (now : List ℕ) → insertAt L B f x img ≡ accepted (record { answer = a; image = now }) → OneMore L B f x img now
+          → InsertedAll L B f xs now → InsertedAll L B f (x ∷ xs) img
+      rest a now e m (stuck-in q) = stuck-in (rw (e, q) refl)
+      rest a now e m (took-all end q g n) =
+          took-all end (rw (e, q) refl) g
+          (record {
+            here = λ y. omega (arith, n .here y, m .here y, copies-cons y x xs);
+            elsewhere = λ d y l o. n .elsewhere d y l o ∙ m .elsewhere d y l o;
+          })
+
+      first : Inserted L B f x img → ((now : List ℕ) → Good L B now → InsertedAll L B f xs now) → InsertedAll L B f (x ∷ xs) img
+      first (stuck e full) k = stuck-in (rw e refl)
+      first (took a now e full g m) k = rest a now e m (k now g)
+
+  -- one front bucket of both, then the rest
+  both-next : (B f : ℕ) (a b xs ys img i j now : List ℕ) → f < fronts B → Members L B f a xs → Members L B f b ys
+      → More L B f xs img i → More L B f ys i j → Both L B (suc f) a b j now → Both L B f a b img now
+  both-next B f a b xs ys img i j now h ma mb p q r =
+      record {
+        before = λ e y l. r .before e y (omega arith) ∙ q .elsewhere e y (omega arith) (λ n. omega arith) ∙ p .elsewhere e y (omega arith) (λ n. omega arith);
+        from = λ e y l k. at e y l k (eqb e f) refl;
+      }
+    where
+      at : (e y : ℕ) → f ≤ e → e < fronts B → (t : Bool) → eqb e f ≡ t → total L B e y now ≡ total L B e y a + total L B e y b + total L B e y img
+      at e y l k true t =
+          rw (eqb-true e f t) (omega (arith, r .before f y (omega arith), q .here y, p .here y, ma .each y, mb .each y))
+      at e y l k false t =
+          let n : e ≡ f → ⊥ = eqb-false e f t in
+          omega (arith, r .from e y (lt-of-le-ne l (λ o. n (sym o))) k, q .elsewhere e y k n, p .elsewhere e y k n)
+
+  mergeFrom-keeps : (B : ℕ) (a b : List ℕ) → Good L B a → Good L B b → (n f : ℕ) (img : List ℕ) → f + n ≡ fronts B → Good L B img → Merged L B n f a b img
+  unfolding mergeFrom
+  mergeFrom-keeps B a b ga gb zero f img h good =
+      joined img refl good (record { before = λ e y l. refl; from = λ e y l k. absurd (omega arith) })
+  mergeFrom-keeps B a b ga gb (suc n) f img h good =
+      let ma = members-good L B a ga f (omega arith) in
+      let mb = members-good L B b gb f (omega arith) in
+      first (ma .0) (mb .0) (ma .1) (mb .1) (ma .2) (mb .2) (insertAll-keeps B f (ma .0) img good (omega arith) (ma .2 .range))
+      (λ j g. mergeFrom-keeps B a b ga gb n (suc f) j (omega arith) g)
+    where
+      third : (xs ys i j : List ℕ) → membersAt L B f a ≡ accepted xs → membersAt L B f b ≡ accepted ys → Members L B f a xs → Members L B f b ys
+          → insertAll L B f xs img ≡ accepted i → insertAll L B f ys i ≡ accepted j → More L B f xs img i → More L B f ys i j
+          → Merged L B n (suc f) a b j → Merged L B (suc n) f a b img
+      third xs ys i j ea eb ma mb ei ej mi mj (overfull e) = overfull (rw (ea, eb, ei, ej, e) refl)
+      third xs ys i j ea eb ma mb ei ej mi mj (joined now e g m) =
+          joined now (rw (ea, eb, ei, ej, e) refl) g (both-next B f a b xs ys img i j now (omega arith) ma mb mi mj m)
+
+      second : (xs ys i : List ℕ) → membersAt L B f a ≡ accepted xs → membersAt L B f b ≡ accepted ys → Members L B f a xs → Members L B f b ys
+          → insertAll L B f xs img ≡ accepted i → More L B f xs img i → InsertedAll L B f ys i
+          → ((j : List ℕ) → Good L B j → Merged L B n (suc f) a b j) → Merged L B (suc n) f a b img
+      second xs ys i ea eb ma mb ei mi (stuck-in e) k = overfull (rw (ea, eb, ei, e) refl)
+      second xs ys i ea eb ma mb ei mi (took-all j ej g mj) k = third xs ys i j ea eb ma mb ei ej mi mj (k j g)
+
+      first : (xs ys : List ℕ) → membersAt L B f a ≡ accepted xs → membersAt L B f b ≡ accepted ys → Members L B f a xs → Members L B f b ys
+          → InsertedAll L B f xs img → ((j : List ℕ) → Good L B j → Merged L B n (suc f) a b j) → Merged L B (suc n) f a b img
+      first xs ys ea eb ma mb (stuck-in e) k = overfull (rw (ea, eb, e) refl)
+      first xs ys ea eb ma mb (took-all i ei g mi) k = second xs ys i ea eb ma mb ei mi (insertAll-keeps B f ys i g (omega arith) (mb .range)) k
+
+  -- a merge of two good images: checked, then put into the empty image
+  pub merge-good : (B : ℕ) (a b : List ℕ) → Good L B a → Good L B b → MergedWhole L B a b
+  unfolding mergeSized
+  merge-good B a b ga gb =
+      let s = sizeOf-some (length a) B (ga .size) in
+      go (mergeFrom-keeps B a b ga gb (fronts B) 0 (emptyImage L B) (omega arith) (empty-good B (s .1) (s .2)))
+    where
+      go : Merged L B (fronts B) 0 a b (emptyImage L B) → MergedWhole L B a b
+      go (overfull e) = no-space (rw (check-good L B a ga, check-good L B b gb, e) refl)
+      go (joined now e g m) =
+          whole now (rw (check-good L B a ga, check-good L B b gb, e) refl) g
+          (λ f x l. omega (arith, m .from f x (omega arith) l, empty-total B f x l))
