@@ -19,6 +19,7 @@ use Rattle.machine.specs.Results.{accepted}
 use Rattle.machine.specs.Images.{backAt}
 use Rattle.machine.specs.Machine.{Place, nowhere, front, first, second, counted, countAt, asked, askAt}
 use Rattle.machine.proofs.Invariant.{Good, frontView, backView, part, over, total}
+use Rattle.machine.proofs.Overflow.{read-held}
 use Rattle.machine.proofs.Sums.{zero-or-more, sum-plus, sum-nought}
 
 -- how many members of front bucket f are smaller than x
@@ -51,8 +52,8 @@ both-fail a c = (λ x. absurd (a x), λ x. absurd (c x))
 
 module _ (L : Layout) (B : ℕ) (img : List ℕ) (good : Good L B img) (f : ℕ) (h : f < fronts B) where
   -- a backyard bucket of f is read
-  pub back-read : (t : Bool) → backAt L B (bucketOf t B f) img ≡ accepted (backView L B (bucketOf t B f) img)
-  back-read t = good .back (bucketOf t B f) (bucketOf-lt t B f h)
+  back-read : (t : Bool) → backAt L B (bucketOf t B f) img ≡ accepted (backView L B (bucketOf t B f) img)
+  back-read t = read-held L B f img good h t
 
   -- nothing stands in the backyard of a front bucket that is not full, and nothing below its largest
   pub over-none : (x : ℕ) → (length (frontView L B f img) ≡ L .frontSlots → largest (frontView L B f img) ≤ x → ⊥) → over L B f x img ≡ 0

@@ -9,8 +9,8 @@ use lib.ListN.{length}
 use lib.Dec.{T, eqb, ltb, leb→le, le→leb}
 use mir.Facts.{and-yes, yes-and}
 use borrow.Author.Tests.{ltb-true, ltb-false, lt-ltb, le-ltb, eqb-true, eqb-false, eq-eqb, ne-eqb}
-use Rattle.multiset.specs.Multisets.{copies, atLeast, ascending}
-use Rattle.multiset.proofs.MultisetLaws.{hit, Below, hit-other, copies-cons, copies-added, length-added, ascending-added, below-added}
+use Rattle.multiset.specs.Multisets.{copies, atLeast, ascending, Below}
+use Rattle.multiset.proofs.MultisetLaws.{hit, hit-other, copies-cons, copies-added, length-added, ascending-added, below-added}
 use Rattle.minifilter.specs.Buckets.{carrying}
 use Rattle.machine.specs.Bags.{addedAll, has, fromFirst}
 

@@ -9,27 +9,11 @@ use native.Mathlib.Decide.{ℕ-discrete}
 use lib.ListN.{length}
 use lib.Dec.{ltb, eqb}
 use borrow.Author.Tests.{ltb-true, ltb-false, lt-ltb, le-ltb, eq-eqb, ne-eqb}
-use Rattle.multiset.specs.Multisets.{added, removed, copies, largest}
-use Rattle.multiset.proofs.MultisetLaws.{
-  hit,
-  Below,
-  copies-added,
-  copies-removed,
-  length-added,
-  length-removed,
-  ascending-added,
-  ascending-removed,
-  below-added,
-  below-removed,
-  below-copies,
-  largest-added,
-  largest-max,
-  copies-largest,
-}
+use Rattle.multiset.specs.Multisets.{added, removed, copies, largest, Below}
+use Rattle.multiset.proofs.MultisetLaws.{hit, copies-added, copies-removed, length-added, length-removed, ascending-added, ascending-removed, below-added, below-removed, below-copies, largest-added, largest-max, copies-largest}
 use Rattle.crumbmap.specs.Layouts.{Layout, keys, fronts}
 use Rattle.crumbmap.specs.CrumbMap.{bucketOf, crumbOf}
-use Rattle.minifilter.specs.Buckets.{Fits64}
-use Rattle.minifilter.proofs.BucketLaws.{FrontList}
+use Rattle.minifilter.specs.Buckets.{Fits64, FrontList}
 use Rattle.machine.specs.Results.{accepted, refused}
 use Rattle.machine.specs.Images.{frontAt, backAt, putFront, putBack}
 use Rattle.machine.specs.Machine.{insertAt, full}

@@ -8,11 +8,11 @@ use mathlib.Core.List.{List, []}
 use mathlib.Core.Option.{some}
 use native.Mathlib.Omega.{arith}
 use lib.ListN.{length}
+use Rattle.minifilter.specs.Buckets.{FrontList, BackList}
 use Rattle.multiset.specs.Multisets.{copies, largest}
 use Rattle.multiset.proofs.MultisetLaws.{hit}
 use Rattle.crumbmap.specs.Layouts.{Layout, fronts, backyards}
 use Rattle.crumbmap.specs.CrumbMap.{bucketOf, crumbOf}
-use Rattle.minifilter.proofs.BucketLaws.{FrontList, BackList}
 use Rattle.machine.specs.Results.{Result, accepted, refused}
 use Rattle.machine.specs.Images.{sizeOf, frontAt, backAt}
 

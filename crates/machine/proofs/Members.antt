@@ -9,23 +9,11 @@ use lib.ListN.{length}
 use lib.Dec.{T, leb, eqb}
 use mir.Facts.{and-yes, yes-and}
 use Rattle.multiset.specs.Multisets.{added, removed, copies, largest}
-use Rattle.multiset.proofs.MultisetLaws.{
-  hit,
-  hit-same,
-  hit-other,
-  length-added,
-  length-removed,
-  ascending-added,
-  ascending-removed,
-  below-added,
-  below-removed,
-  copies-largest,
-}
+use Rattle.multiset.proofs.MultisetLaws.{hit, hit-same, hit-other, length-added, length-removed, ascending-added, ascending-removed, below-added, below-removed, copies-largest}
 use Rattle.crumbmap.specs.Layouts.{Layout, keys, fronts}
 use Rattle.crumbmap.specs.CrumbMap.{home, bucketOf, crumbOf}
 use Rattle.crumbmap.proofs.CrumbMapLaws.{crumbOf-lt, home-bucketOf}
-use Rattle.minifilter.specs.Buckets.{isSome, valid}
-use Rattle.minifilter.proofs.BucketLaws.{FrontList, BackList}
+use Rattle.minifilter.specs.Buckets.{isSome, valid, FrontList, BackList}
 
 pub hit-of : (x y : ℕ) → x ≡ y → hit x y ≡ 1
 hit-of x y p = rw p (hit-same y)

@@ -9,13 +9,13 @@ use lib.ListN.{length}
 use lib.Dec.{eqb}
 use lib.Arith.{lt-of-le-ne}
 use borrow.Author.Tests.{eqb-true, eqb-false}
-use Rattle.multiset.specs.Multisets.{copies, ascending}
-use Rattle.multiset.proofs.MultisetLaws.{Below, copies-cons}
+use Rattle.multiset.specs.Multisets.{copies, ascending, Below}
+use Rattle.multiset.proofs.MultisetLaws.{copies-cons}
 use Rattle.crumbmap.specs.Layouts.{Layout, keys, fronts, backyards}
 use Rattle.crumbmap.specs.CrumbMap.{bucketOf}
 use Rattle.crumbmap.proofs.CrumbMapLaws.{bucketOf-lt}
-use Rattle.minifilter.specs.Buckets.{Fits64, valid}
-use Rattle.minifilter.proofs.BucketLaws.{FrontList, BackList, length-frontBytes, length-backBytes, frontMembers-frontBytes, backMembers-backBytes}
+use Rattle.minifilter.specs.Buckets.{Fits64, valid, FrontList, BackList}
+use Rattle.minifilter.proofs.BucketLaws.{length-frontBytes, length-backBytes, frontMembers-frontBytes, backMembers-backBytes}
 use Rattle.machine.specs.Results.{accepted, refused}
 use Rattle.machine.specs.Images.{frontAt, backAt, emptyImage}
 use Rattle.machine.specs.Machine.{insertAt, membersAt}

@@ -4,13 +4,11 @@ use Prim.Native.Nat.{ℕ, _+_, _<_}
 use mathlib.Core.Bool.{Bool, true, false}
 use mathlib.Core.List.{List}
 use lib.Dec.{T}
-use Rattle.multiset.specs.Multisets.{copies, ascending}
-use Rattle.multiset.proofs.MultisetLaws.{Below}
+use Rattle.multiset.specs.Multisets.{copies, ascending, Below}
 use Rattle.crumbmap.specs.Layouts.{Layout, keys, fronts}
 use Rattle.crumbmap.specs.CrumbMap.{bucketOf, crumbOf}
 use Rattle.crumbmap.proofs.CrumbMapLaws.{bucketOf-lt, crumbOf-lt}
-use Rattle.minifilter.specs.Buckets.{carrying}
-use Rattle.minifilter.proofs.BucketLaws.{BackList}
+use Rattle.minifilter.specs.Buckets.{carrying, BackList}
 use Rattle.machine.specs.Results.{accepted}
 use Rattle.machine.specs.Images.{backAt}
 use Rattle.machine.specs.Machine.{overflow}

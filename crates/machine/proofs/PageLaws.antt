@@ -9,20 +9,17 @@ use native.Mathlib.Nat.{suc-mul, mul-le-mul-right}
 use lib.ListN.{length}
 use lib.Dec.{leb, ltb, eqb, T}
 use borrow.Author.Tests.{ltb-true, ltb-false, leb-true, leb-false, le-ltb, eqb-true, eqb-false}
-use Rattle.multiset.specs.Multisets.{copies, ascending, sum}
-use Rattle.multiset.proofs.MultisetLaws.{Below}
+use Rattle.multiset.specs.Multisets.{copies, ascending, sum, Below}
 use Rattle.crumbmap.specs.Layouts.{Layout, keys, fronts}
 use Rattle.crumbmap.specs.Fingerprints.{fingerprint}
-use Rattle.crumbmap.specs.CrumbMap.{bucketOf, crumbOf}
-use Rattle.crumbmap.proofs.CrumbMapLaws.{bucketOf-lt, crumbOf-lt}
-use Rattle.minifilter.specs.Buckets.{carrying}
 use Rattle.machine.specs.Results.{accepted, refused}
 use Rattle.machine.specs.Bags.{addedAll}
-use Rattle.machine.specs.Machine.{overflow, membersAt}
+use Rattle.machine.specs.Machine.{membersAt}
 use Rattle.machine.specs.Pages.{Run, runFrom, pageFrom}
-use Rattle.machine.proofs.BagLaws.{copies-carrying, ascending-carrying, below-carrying, copies-addedAll, ascending-addedAll, below-addedAll}
-use Rattle.machine.proofs.Invariant.{Good, frontView, backView, part, over, total}
-use Rattle.machine.proofs.AskLaws.{back-read, over-none}
+use Rattle.machine.proofs.BagLaws.{copies-addedAll, ascending-addedAll, below-addedAll}
+use Rattle.machine.proofs.Invariant.{Good, frontView, total}
+use Rattle.machine.proofs.Overflow.{overs, copies-overs, read-held, ascending-overs, below-overs}
+use Rattle.machine.proofs.AskLaws.{over-none}
 use Rattle.machine.proofs.Segments.{Segment, segment-none, segment-append, segment-shifted, length-sum}
 
 -- the members of front bucket f, as a page lists them: every key as often as it stands there
@@ -52,23 +49,11 @@ pub data Paged (L : Layout) (B : ℕ) (N : ℕ → ℕ) (s room : ℕ) (img : Li
 
 module _ (L : Layout) (B : ℕ) (img : List ℕ) (good : Good L B img) where
   pub members-good : (f : ℕ) → f < fronts B → (xs : List ℕ) × (membersAt L B f img ≡ accepted xs) × Members L B f img xs
-  unfolding membersAt overflow part
+  unfolding membersAt
   members-good f h = go (ltb (length xs) (L .frontSlots)) refl
     where
       xs : List ℕ
       xs = frontView L B f img
-
-      bag : Bool → List ℕ
-      bag t = carrying (crumbOf t f) (backView L B (bucketOf t B f) img)
-
-      order-bag : (t : Bool) → T (ascending (bag t))
-      order-bag t = ascending-carrying (crumbOf t f) (backView L B (bucketOf t B f) img) (good .backGood (bucketOf t B f) (bucketOf-lt t B f h) .order)
-
-      range-bag : (t : Bool) → Below (keys L) (bag t)
-      range-bag t = below-carrying (keys L) (crumbOf t f) (backView L B (bucketOf t B f) img) (good .backGood (bucketOf t B f) (bucketOf-lt t B f h) .range)
-
-      each-bag : (t : Bool) (y : ℕ) → copies y (bag t) ≡ part L B t f y img
-      each-bag t y = copies-carrying y (crumbOf t f) (backView L B (bucketOf t B f) img) (crumbOf-lt t f)
 
       go : (b : Bool) → ltb (length xs) (L .frontSlots) ≡ b → (xs : List ℕ) × (membersAt L B f img ≡ accepted xs) × Members L B f img xs
       go true e = (
@@ -81,13 +66,12 @@ module _ (L : Layout) (B : ℕ) (img : List ℕ) (good : Good L B img) where
         },
       )
       go false e = (
-        addedAll xs (addedAll (bag true) (bag false)),
-        rw (good .front f h, e, back-read L B img good f h true, back-read L B img good f h false) refl,
+        addedAll xs (overs L B f img),
+        rw (good .front f h, e, read-held L B f img good h true, read-held L B f img good h false) refl,
         record {
-          order = ascending-addedAll xs (addedAll (bag true) (bag false)) (ascending-addedAll (bag true) (bag false) (order-bag false));
-          range = below-addedAll (keys L) xs (addedAll (bag true) (bag false)) (good .frontGood f h .range) (below-addedAll (keys L) (bag true) (bag false) (range-bag true) (range-bag false));
-          each = λ y.
-              omega (arith, copies-addedAll y xs (addedAll (bag true) (bag false)), copies-addedAll y (bag true) (bag false), each-bag true y, each-bag false y);
+          order = ascending-addedAll xs (overs L B f img) (ascending-overs L B f img good h);
+          range = below-addedAll (keys L) xs (overs L B f img) (good .frontGood f h .range) (below-overs L B f img good h);
+          each = λ y. omega (arith, copies-addedAll y xs (overs L B f img), copies-overs L B f img y);
         },
       )
 

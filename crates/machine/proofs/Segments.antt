@@ -10,8 +10,8 @@ use lib.ListN.{length}
 use lib.Dec.{leb, ltb, eqb, T, leb→le, le→leb}
 use lib.Ieee.Fits.{and-i, and-l, and-r}
 use borrow.Author.Tests.{ltb-true, ltb-false, lt-ltb, eqb-true, eqb-false}
-use Rattle.multiset.specs.Multisets.{copies, below, ascending, atLeast, sum}
-use Rattle.multiset.proofs.MultisetLaws.{Below, hit, hit-same, hit-other, copies-cons, copies-append, head-least, sum-copies}
+use Rattle.multiset.specs.Multisets.{copies, below, ascending, atLeast, sum, Below}
+use Rattle.multiset.proofs.MultisetLaws.{hit, hit-same, hit-other, copies-cons, copies-append, head-least, sum-copies}
 use Rattle.machine.proofs.Sums.{zero-or-more, sum-alike, sum-shifted}
 
 pub record Segment (N : ℕ → ℕ) (lo hi : ℕ) (gs : List ℕ) : Type 0 where

@@ -8,10 +8,12 @@ use native.Mathlib.Omega.{arith}
 use lib.ListN.{length, drop, replicate, length-append, length-drop, take-append-drop}
 use lib.Seq.{take-all, drop-at}
 use lib.Dec.{T}
-use Rattle.multiset.specs.Multisets.{ascending, allZero}
+use Rattle.multiset.specs.Multisets.{ascending, allZero, Below}
 use Rattle.multiset.specs.Digits.{spread, grouped, padded, joined, highs, lows}
 use Rattle.crumbmap.specs.Layouts.{Layout, keys}
 use Rattle.minifilter.specs.Buckets.{
+  FrontList,
+  BackList,
   Fits64,
   given,
   valid,
@@ -23,7 +25,6 @@ use Rattle.minifilter.specs.Buckets.{
   frontMembers,
   backMembers,
 }
-use Rattle.multiset.proofs.MultisetLaws.{Below}
 use Rattle.multiset.proofs.DigitLaws.{
   below-drop,
   below-spread,
@@ -55,18 +56,6 @@ use Rattle.minifilter.proofs.SlotBytes.{
   slotBytes-slotKeys,
   slotKeys-list,
 }
-
--- what can stand in a front bucket, and in backyard bucket j of B
-pub record FrontList (L : Layout) (xs : List ℕ) : Type 0 where
-  pub order : T (ascending xs)
-  pub range : Below (keys L) xs
-  pub room : length xs ≤ L .frontSlots
-
-pub record BackList (L : Layout) (B j : ℕ) (ys : List ℕ) : Type 0 where
-  pub order : T (ascending ys)
-  pub range : Below (keys L * 16) ys
-  pub room : length ys ≤ L .backSlots
-  pub crumbs : T (valid B j ys)
 
 -- ---- a bucket that was read, by the tests that it passed
 

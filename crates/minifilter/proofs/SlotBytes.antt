@@ -11,12 +11,12 @@ use lib.ListN.{length, take, drop, length-append, length-drop}
 use lib.Seq.{length-take-le, take-at, drop-at, take-add}
 use lib.Pow.{pow-add, pow-pos}
 use lib.Dec.{T, leb, leb→le, le→leb}
-use Rattle.multiset.specs.Multisets.{ascending, allZero}
+use Rattle.multiset.specs.Multisets.{ascending, allZero, Below}
 use Rattle.multiset.specs.Digits.{digits, value, spread, grouped, padded, joined, highs, lows}
 use Rattle.crumbmap.specs.Layouts.{Layout, tags, keys, wordBytes}
 use Rattle.minifilter.specs.Words.{wordFrom, minisFrom}
 use Rattle.minifilter.specs.Buckets.{given, slotEnd, slotBytes, slotKeys}
-use Rattle.multiset.proofs.MultisetLaws.{Below, ascending-tail, ascending-le, ascending-cons}
+use Rattle.multiset.proofs.MultisetLaws.{ascending-tail, ascending-le, ascending-cons}
 use Rattle.multiset.proofs.DigitLaws.{
   below-take,
   below-drop,

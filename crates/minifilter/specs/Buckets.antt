@@ -5,10 +5,10 @@ use mathlib.Core.Bool.{Bool, true, false, cond, _&&_}
 use mathlib.Core.List.{List, [], _∷_, _++_}
 use mathlib.Core.Option.{Option, none, some, bind}
 use lib.ListN.{length, take, drop}
-use lib.Dec.{leb, eqb}
-use Rattle.multiset.specs.Multisets.{ascending, allZero}
+use lib.Dec.{leb, eqb, T}
+use Rattle.multiset.specs.Multisets.{ascending, allZero, Below}
 use Rattle.multiset.specs.Digits.{digits, value, spread, grouped, padded, joined, highs, lows}
-use Rattle.crumbmap.specs.Layouts.{Layout, tags, wordBytes}
+use Rattle.crumbmap.specs.Layouts.{Layout, tags, keys, wordBytes}
 use Rattle.crumbmap.specs.CrumbMap.{home}
 use Rattle.minifilter.specs.Words.{wordFrom, minisFrom}
 
@@ -81,3 +81,15 @@ pub record Fits64 (L : Layout) : Type 0 where
   pub slots : 0 < L .frontSlots
   pub front : slotEnd L (L .frontSlots) ≤ 64
   pub back : 2 * slotEnd L (L .backSlots) + L .backSlots ≤ 128
+
+-- what can stand in a front bucket, and in backyard bucket j of B
+pub record FrontList (L : Layout) (xs : List ℕ) : Type 0 where
+  pub order : T (ascending xs)
+  pub range : Below (keys L) xs
+  pub room : length xs ≤ L .frontSlots
+
+pub record BackList (L : Layout) (B j : ℕ) (ys : List ℕ) : Type 0 where
+  pub order : T (ascending ys)
+  pub range : Below (keys L * 16) ys
+  pub room : length ys ≤ L .backSlots
+  pub crumbs : T (valid B j ys)

@@ -26,9 +26,9 @@ use lib.Seq.{length-take-le, take-at, drop-at, take-add, take-append-seam}
 use lib.Arith.{digits-div, digits-mod, digits-lt}
 use lib.Dec.{T, eqb, leb, eqb→eq, le→leb}
 use mir.Facts.{and-yes, yes-and}
-use Rattle.multiset.specs.Multisets.{allZero, atLeast, ascending}
+use Rattle.multiset.specs.Multisets.{allZero, atLeast, ascending, Below}
 use Rattle.multiset.specs.Digits.{digits, value, spread, grouped, padded, joined, highs, lows}
-use Rattle.multiset.proofs.MultisetLaws.{Below, ascending-tail, ascending-le}
+use Rattle.multiset.proofs.MultisetLaws.{ascending-tail, ascending-le}
 
 -- ---- members below a bound
 

@@ -12,16 +12,11 @@ use lib.ListN.{length}
 use lib.Dec.{eqb, leb, T, leb→le, le→leb}
 use mir.Facts.{and-yes, yes-and}
 use borrow.Author.Tests.{eq-eqb, ne-eqb, lt-ltb, le-ltb, le-leb, lt-leb}
-use Rattle.multiset.specs.Multisets.{added, removed, copies, below, slotOf, largest, atLeast, ascending, sum}
+use Rattle.multiset.specs.Multisets.{Below, added, removed, copies, below, slotOf, largest, atLeast, ascending, sum}
 
 -- 1 where x is y, else 0
 unfoldable pub hit : ℕ → ℕ → ℕ
 hit x y = cond (eqb x y) 1 0
-
--- every member is below k
-abbrev pub Below : ℕ → List ℕ → Type 0
-Below k [] = Unit {0}
-Below k (x ∷ xs) = (x < k) × Below k xs
 
 pub hit-same : (x : ℕ) → hit x x ≡ 1
 unfolding hit

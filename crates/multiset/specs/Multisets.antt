@@ -1,5 +1,5 @@
 -- Multisets of numbers (document 01: bags) as ascending lists, "equal ones allowed".
-use Prim.Native.Nat.{ℕ, zero, suc, _+_}
+use Prim.Native.Nat.{ℕ, zero, suc, _+_, _<_}
 use mathlib.Core.Bool.{Bool, true, cond, _&&_}
 use mathlib.Core.List.{List, [], _∷_}
 use mathlib.Core.Option.{Option, none, some, Option·map}
@@ -45,6 +45,11 @@ atLeast x (y ∷ ys) = leb x y
 unfoldable pub ascending : List ℕ → Bool
 ascending [] = true
 ascending (x ∷ xs) = atLeast x xs && ascending xs
+
+-- every member is below k
+abbrev pub Below : ℕ → List ℕ → Type 0
+Below k [] = Unit {0}
+Below k (x ∷ xs) = (x < k) × Below k xs
 
 -- "unused bytes and halves are 0"
 unfoldable pub allZero : List ℕ → Bool
