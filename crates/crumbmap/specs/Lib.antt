@@ -3,3 +3,4 @@ pub mod Layouts
 pub mod Fingerprints
 pub mod CrumbMap
 pub mod Places
+pub mod Marks

@@ -3,6 +3,7 @@
 
 pub mod fingerprint;
 pub mod map;
+pub mod valid;
 
 // The number of a front bucket.
 pub struct Front(pub usize);

@@ -38,7 +38,7 @@ pub fn second_of(front: Front, size: usize) -> Overflow
 }
 
 // "K = floor(B / 8) + 1."
-fn stride_of(size: usize) -> usize
+pub fn stride_of(size: usize) -> usize
     requires { ⌜ size ≤ 65536 ⌝ }
     ensures { λ r. ⌜ (r ≡ stride size) × (0 < r) × (r ≤ 8193) ⌝ }
 {

@@ -3,3 +3,4 @@ pub mod Words
 pub mod Select
 pub mod Buckets
 pub mod Readings
+pub mod Slots

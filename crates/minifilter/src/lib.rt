@@ -1,6 +1,8 @@
 // One 64-byte bucket: its word, slots, reader, search, insert and remove.
 
+pub mod read;
 pub mod select;
+pub mod slots;
 pub mod word;
 
 // What reading a bucket whole finds: "its member count, or unsound".

@@ -1,0 +1,68 @@
+-- Bits that mark which digits have a home: the lowest k of them, and the marks of both choices side by side.
+-- Main results: `ones-in`, `marks-lowest`, `marks-home`.
+use mathlib.Core.Path.{_≡_, refl, sym, _∙_, ap}
+use Prim.Native.Nat.{ℕ, suc, _+_, _*_, _-_, _/_, _%_, _^_, _≤_, _<_}
+use native.Mathlib.Nat.{div-eq-of-lt, pow-suc, one-mul, lt-of-lt-of-le}
+use native.Mathlib.Omega.{arith}
+use mathlib.Core.Bool.{Bool, true, false, cond}
+use mathlib.Core.Option.{Option, none, some}
+use lib.Dec.{ltb, lit<}
+use lib.Pow.{pow-pos, pow-mono, ones-lt, ones-split, high, low, field, mod-mod-pow, shr-shr, shl-exact}
+use borrow.Author.Tests.{ltb-true, ltb-false}
+use Rattle.crumbmap.specs.CrumbMap.{home, firstHome, secondHome}
+use Rattle.crumbmap.specs.Marks.{Marks, bitOf}
+
+odd-ones : (j : ℕ) → (2 ^ suc j - 1) % 2 ≡ 1
+odd-ones j = rw (pow-suc 2 j) (omega (arith, pow-pos j))
+
+-- 2 ^ k - 1 has the bits 0 to k - 1, and no other
+pub ones-in : (k d : ℕ) → d < k → (2 ^ k - 1) / 2 ^ d % 2 ≡ 1
+ones-in k d h =
+    let j = k - suc d in
+    let e : k ≡ suc j + d = omega arith in
+    rw (e, ones-split (suc j) d, high (2 ^ suc j - 1) d (ones-lt d)) (odd-ones j)
+
+ones-out : (k d : ℕ) → k ≤ d → (2 ^ k - 1) / 2 ^ d % 2 ≡ 0
+ones-out k d h = rw (div-eq-of-lt (lt-of-lt-of-le (ones-lt k) (pow-mono h)))
+
+pub bit-cond : (p : Bool) (f : ℕ) → bitOf (cond p (some f) none) ≡ cond p 1 0
+bit-cond true f = refl
+bit-cond false f = refl
+
+pub one-shl : (k : ℕ) → k < 32 → (1 * 2 ^ k) % 2 ^ 32 ≡ 2 ^ k
+one-shl k h = shl-exact 1 k 32 (lit< tt) (omega arith) ∙ one-mul (2 ^ k)
+
+-- the lowest k digits have a home, no other has
+pub marks-lowest : (n k : ℕ) (f : ℕ → Option ℕ) → k ≤ n → ((d : ℕ) → d < n → bitOf (f d) ≡ cond (ltb d k) 1 0) → Marks n f (2 ^ k - 1)
+marks-lowest n k f h e =
+    record { small = lt-of-lt-of-le (ones-lt k) (pow-mono h); bits = λ d l. go d (ltb d k) refl ∙ sym (e d l) }
+  where
+    go : (d : ℕ) (p : Bool) → ltb d k ≡ p → (2 ^ k - 1) / 2 ^ d % 2 ≡ cond p 1 0
+    go d true t = ones-in k d (ltb-true d k t)
+    go d false t = ones-out k d (ltb-false d k t)
+
+-- a bit of two bytes is a bit of the one or the other
+module _ (hi lo c : ℕ) (small : lo < 2 ^ 8) where
+  bit-low : c < 8 → (hi * 2 ^ 8 + lo) / 2 ^ c % 2 ≡ lo / 2 ^ c % 2
+  bit-low h =
+      let n = hi * 2 ^ 8 + lo in
+      let e : 8 - (1 + c) + (1 + c) ≡ 8 = omega arith in
+      let s = rw (e, low hi 8 small) at (mod-mod-pow n (8 - (1 + c)) (1 + c)) in
+      sym (field n 1 c) ∙ ap (λ (x : ℕ). x / 2 ^ c) (sym s) ∙ field lo 1 c
+
+  bit-high : 8 ≤ c → (hi * 2 ^ 8 + lo) / 2 ^ c % 2 ≡ hi / 2 ^ (c - 8) % 2
+  bit-high h =
+      let e : 8 + (c - 8) ≡ c = omega arith in
+      ap (λ (x : ℕ). x % 2) (sym (rw (e, high hi 8 small) at (shr-shr (hi * 2 ^ 8 + lo) 8 (c - 8))))
+
+-- a crumb is 8 × choice + digit
+pub marks-home : (B j lo hi : ℕ) → Marks 8 (firstHome B j) lo → Marks 8 (secondHome B j) hi → Marks 16 (home B j) (lo + 256 * hi)
+unfolding home
+marks-home B j lo hi m n = record { small = omega (arith, m .small, n .small); bits = λ c l. rw e (go c l (ltb c 8) refl) }
+  where
+    e : lo + 256 * hi ≡ hi * 2 ^ 8 + lo
+    e = omega arith
+
+    go : (c : ℕ) → c < 16 → (p : Bool) → ltb c 8 ≡ p → (hi * 2 ^ 8 + lo) / 2 ^ c % 2 ≡ bitOf (cond p (firstHome B j c) (secondHome B j (c - 8)))
+    go c l true t = bit-low hi lo c (m .small) (ltb-true c 8 t) ∙ m .bits c (ltb-true c 8 t)
+    go c l false t = bit-high hi lo c (m .small) (ltb-false c 8 t) ∙ n .bits (c - 8) (omega (arith, ltb-false c 8 t))

@@ -1,0 +1,52 @@
+-- `minifilter::read::member_at` meets its contract: tag and crumb are those of the slot, and a front bucket's slots have the crumb 0.
+use Prim.Native.Nat.{ℕ, _<_}
+use native.Mathlib.Omega.{arith}
+use borrow.Author.Needs.{needs}
+use lib.ListN.{getD-replicate}
+use Rattle.minifilter.proofs.ReadLaws.{slotCount-le}
+use Rattle.minifilter.proofs.read.member_at.Statement.{statement}
+use Rattle.minifilter.proofs.read.member_at.Tie as tie
+
+mul-key : tie.Need-mul-key
+mul-key c = search needs
+
+tag-of-requires : tie.Need-tag-of-requires
+tag-of-requires c κs = (c .before .pre .0, omega (arith, slotCount-le (c .before .args .crumbs)))
+
+add-key : tie.Need-add-key
+add-key c = search needs
+
+mul-result : tie.Need-mul-result
+mul-result c = search needs
+
+crumb-of-requires : tie.Need-crumb-of-requires
+crumb-of-requires c κs = (c .before .before .before .pre .0, rw (c .if1 .taken) at (c .before .before .before .pre .2))
+
+add-result : tie.Need-add-result
+add-result c = search needs
+
+returns : tie.Need-returns
+returns c = rw (c .before .if1 .taken, c .before .before .tag-of .ensures .0, c .crumb-of .ensures .0)
+
+mul-result-2 : tie.Need-mul-result-2
+mul-result-2 c = search needs
+
+returns-2 : tie.Need-returns-2
+returns-2 c =
+    let s = c .before .before .before in
+    let l : s .args .slot < 28 = rw (c .if1 .left) at (s .pre .2) in
+    rw (c .if1 .left, c .before .tag-of .ensures .0, getD-replicate {A = ℕ} 28 (s .args .slot) 0 0 l) (omega arith)
+
+pub member-at-spec : {M : Type 1} → statement M
+member-at-spec =
+    tie.close
+    (tie.spec
+    mul-key
+    tag-of-requires
+    add-key
+    mul-result
+    crumb-of-requires
+    add-result
+    returns
+    mul-result-2
+    returns-2)

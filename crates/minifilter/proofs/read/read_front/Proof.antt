@@ -1,0 +1,15 @@
+-- `minifilter::read::read_front` meets its contract: a front bucket's 28 slots are all that it has.
+use mathlib.Core.Path.{sym, _∙_}
+use borrow.Author.Needs.{needs}
+use Rattle.minifilter.proofs.ReadLaws.{reading-front}
+use Rattle.minifilter.proofs.read.read_front.Statement.{statement}
+use Rattle.minifilter.proofs.read.read_front.Tie as tie
+
+read-slots-requires : tie.Need-read-slots-requires
+read-slots-requires c κs = search needs
+
+returns : tie.Need-returns
+returns c = c .read-slots .ensures ∙ sym (reading-front (c .before .before .args .b .now) (c .before .before .pre))
+
+pub read-front-spec : {M : Type 1} → statement M
+read-front-spec = tie.close (tie.spec read-slots-requires returns)

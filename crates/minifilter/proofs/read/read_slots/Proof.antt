@@ -1,0 +1,68 @@
+-- `minifilter::read::read_slots` meets its contract: each test of the word refuses what the specification refuses, and the pass over the slots decides the rest.
+use mathlib.Core.Path.{_≡_, refl, sym, _∙_}
+use Prim.Native.Nat.{_<_, _^_}
+use native.Mathlib.Omega.{arith}
+use borrow.Author.Needs.{needs}
+use Rattle.minifilter.specs.Readings.{readingOf}
+use Rattle.minifilter.specs.Slots.{slotList}
+use Rattle.minifilter.proofs.ElementLaws.{below-bytes}
+use Rattle.minifilter.proofs.ReadLaws.{reading-unlike, reading-over, reading-slots, countIf}
+use Rattle.minifilter.proofs.read.read_slots.Statement.{statement}
+use Rattle.minifilter.proofs.read.read_slots.Tie as tie
+
+word-of-requires : tie.Need-word-of-requires
+word-of-requires c κs = search needs
+
+returns : tie.Need-returns
+returns c =
+    let s = c .before .before .before in
+    let a = s .args in
+    let w = c .before .word-of in
+    sym (reading-unlike (w .result) (a .crumbs) (a .slots) (s .pre .1) (s .pre .2) (a .b .now) (s .pre .0) (w .ensures) (c .if1 .taken))
+
+occupancy-requires : tie.Need-occupancy-requires
+occupancy-requires c κs = search needs
+
+returns-2 : tie.Need-returns-2
+returns-2 c =
+    let s = c .before .before .before .before .before in
+    let a = s .args in
+    let w = c .before .before .before .word-of in
+    let small : w .result < 2 ^ 64 = omega (arith, w .ok) in
+    sym (reading-over (w .result) (a .crumbs) (a .slots) (s .pre .1) (s .pre .2) (a .b .now) (s .pre .0) (w .ensures) small (c .before .before .if1 .left)
+    (omega (arith, c .before .occupancy .ensures .0)))
+
+ascends-requires : tie.Need-ascends-requires
+ascends-requires c κs = search needs
+
+-- the reading that the pass decides
+decided : (c : tie.After-ascends) → let a = c .before .before .before .before .before .before .args in
+    readingOf (slotList (a .crumbs) (a .slots) (a .b .now)) ≡ countIf (c .ascends .result) (c .before .before .occupancy .result)
+decided c =
+    let k = c .before .before .before .before .before in
+    let s = k .before in
+    let a = s .args in
+    let w = c .before .before .before .before .word-of in
+    let o = c .before .before .occupancy in
+    let small : w .result < 2 ^ 64 = omega (arith, w .ok) in
+    rw (o .ensures .0, c .ascends .ensures)
+    (reading-slots (w .result) (a .crumbs) (a .slots) (s .pre .1) (s .pre .2) (a .b .now) (s .pre .0) (w .ensures) small (c .before .before .before .if1 .left)
+    (below-bytes (a .b .now) (k .shared-slice-known .given)) (omega (arith, o .ensures .0)))
+
+returns-3 : tie.Need-returns-3
+returns-3 c = sym (decided (c .before) ∙ rw (c .if3 .taken))
+
+returns-4 : tie.Need-returns-4
+returns-4 c = sym (decided (c .before) ∙ rw (c .if3 .left))
+
+pub read-slots-spec : {M : Type 1} → statement M
+read-slots-spec =
+    tie.close
+    (tie.spec
+    word-of-requires
+    returns
+    occupancy-requires
+    returns-2
+    ascends-requires
+    returns-3
+    returns-4)

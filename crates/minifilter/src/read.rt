@@ -1,0 +1,113 @@
+// The reader: a bucket is first read whole, and is its member count or unsound.
+
+use crate::Reading;
+use crate::slots;
+use crate::word;
+use crumbmap::Backyard;
+use crumbmap::valid;
+ghost use mathlib.Core.Path.{_≡_};
+ghost use Prim.Native.Nat.{_+_, _*_, _<_, _≤_};
+ghost use lib.ListN.{length, take, drop, getD};
+ghost use lib.Count.{ones};
+ghost use Rattle.multiset.specs.Digits.{grouped, spread};
+ghost use Rattle.crumbmap.specs.Layouts.{layout1, backyards};
+ghost use Rattle.minifilter.specs.Buckets.{frontMembers, backMembers};
+ghost use Rattle.minifilter.specs.Readings.{readingOf};
+ghost use Rattle.minifilter.specs.Slots.{slotCount, slotCrumbs, inOrder, slotList, marked};
+
+// A front bucket.
+pub fn read_front(b: &[u8]) -> Reading
+    requires { ⌜ length (now b) ≡ 64 ⌝ }
+    ensures { λ r. ⌜ r ≡ readingOf (frontMembers layout1 (now (b .entry))) ⌝ }
+{
+    read_slots(b, 28, false)
+}
+
+// Backyard bucket `bucket` of an image of size `size`.
+pub fn read_back(b: &[u8], size: usize, bucket: Backyard) -> Reading
+    requires { ⌜ (length (now b) ≡ 64) × (size ≤ 65536) × (bucket .0 < backyards size) ⌝ }
+    ensures { λ r. ⌜ r ≡ readingOf (backMembers layout1 size (bucket .0) (now (b .entry))) ⌝ }
+{
+    let Reading::Members(members) = read_slots(b, 22, true) else {
+        return Reading::Unsound;
+    };
+    if b[63] != 0 {
+        return Reading::Unsound;
+    }
+    let marks = valid::valid_crumbs(size, bucket);
+    if crumbs_marked(b, members, marks) {
+        return Reading::Members(members);
+    }
+    Reading::Unsound
+}
+
+// A bucket's word and slots: "its word has exactly 36 ones, members fit the slots and ascend, unused bytes and halves are 0".
+fn read_slots(b: &[u8], slots: usize, crumbs: bool) -> Reading
+    requires { ⌜ (length (now b) ≡ 64) × (21 ≤ slots) × (slots ≤ slotCount crumbs) ⌝ }
+    ensures { λ r. ⌜ r ≡ readingOf (slotList crumbs slots (now (b .entry))) ⌝ }
+{
+    let w = word::word_of(b);
+    if u64::count_ones(w) != 36 {
+        return Reading::Unsound;
+    }
+    let members = word::occupancy(w);
+    if slots < members {
+        return Reading::Unsound;
+    }
+    if ascends(b, w, slots, crumbs) {
+        return Reading::Members(members);
+    }
+    Reading::Unsound
+}
+
+// All slots, used or not, ascend, the last at most (36, 0, 0). The zeros of the word are taken in turn, the lowest first.
+fn ascends(b: &[u8], w: u64, slots: usize, crumbs: bool) -> bool
+    requires { ⌜ (length (now b) ≡ 64) × (ones w ≡ 36) × (slots ≤ slotCount crumbs) ⌝ }
+    ensures { λ r. ⌜ r ≡ inOrder crumbs slots w (now (b .entry)) ⌝ }
+{
+    let mut zeros = !w;
+    let mut last: u32 = 0;
+    let mut slot: usize = 0;
+    while slot < slots {
+        let mini = u64::trailing_zeros(zeros) - (slot as u32);
+        let member = member_at(b, mini, slot, crumbs);
+        if member < last {
+            return false;
+        }
+        last = member;
+        zeros = zeros & (zeros - 1);
+        slot += 1;
+    }
+    last <= 37_748_736
+}
+
+// What a slot over mini-bucket `mini` holds: mini-bucket, tag and crumb as one number.
+fn member_at(b: &[u8], mini: u32, slot: usize, crumbs: bool) -> u32
+    requires { ⌜ (length (now b) ≡ 64) × (mini ≤ 36) × (slot < slotCount crumbs) ⌝ }
+    ensures { λ r. ⌜ r ≡ (mini * 65536 + getD (grouped 256 2 28 (drop 8 (now (b .entry)))) slot 0) * 16 + getD (slotCrumbs crumbs (now (b .entry))) slot 0 ⌝ }
+{
+    let key = mini * 65_536 + slots::tag_of(b, slot);
+    if crumbs {
+        return key * 16 + slots::crumb_of(b, slot);
+    }
+    key * 16
+}
+
+// "Each crumb is valid": those of the first `members` slots, by their bits in `marks`.
+fn crumbs_marked(b: &[u8], members: usize, marks: u32) -> bool
+    requires { ⌜ (length (now b) ≡ 64) × (members ≤ 22) ⌝ }
+    ensures { λ r. ⌜ r ≡ marked marks (take members (spread 16 2 (drop 52 (now (b .entry))))) ⌝ }
+{
+    if marks == 65_535 {
+        return true;
+    }
+    let mut slot: usize = 0;
+    while slot < members {
+        let crumb = slots::crumb_of(b, slot);
+        if (marks >> crumb) % 2 == 0 {
+            return false;
+        }
+        slot += 1;
+    }
+    true
+}
