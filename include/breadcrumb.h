@@ -1,0 +1,102 @@
+/*
+ * The breadcrumb catalogue: a multiset of 64-bit hashes in a lent byte slice.
+ *
+ * An image has 576 * B + 448 bytes, B from 1 to 65,536: F = 8 * B front buckets and B + 7
+ * backyard buckets of 64 bytes each. What is kept of a hash is its fingerprint; hashes with equal
+ * fingerprints are alike to every call, and each copy is a member of its own.
+ *
+ * The library keeps no state and allocates nothing. Every function takes any bytes and any
+ * numbers. The slices of one call must not overlap, but the two sources of a merge may be one
+ * image. An image may be read by several threads at once; a call that writes needs it alone.
+ *
+ * Every function returns one number, packed: BCF_NUMBER(answer) is 0 when the call is accepted
+ * and otherwise tells why it is refused, BCF_VALUE(answer) is the rest. A refused call leaves all
+ * bytes as they were, but for BCF_FULL from a merge, whose target is then fresh.
+ */
+#ifndef BREADCRUMB_H
+#define BREADCRUMB_H
+
+#include <stddef.h>
+#include <stdint.h>
+
+#ifdef __cplusplus
+extern "C" {
+#endif
+
+/* The length of an image and its numbers of buckets, for B from 1 to 65,536. */
+#define BCF_LENGTH(b) ((size_t)576 * (b) + 448)
+#define BCF_FRONTS(b) ((uint64_t)8 * (b))
+#define BCF_BACKYARDS(b) ((uint64_t)(b) + 7)
+
+/* Numbers. */
+enum {
+    BCF_ACCEPTED = 0,
+    BCF_WRONG_LENGTH = 1,   /* no image has this length */
+    BCF_LENGTHS_DIFFER = 2, /* merge: the three lengths are not the same */
+    BCF_UNSOUND = 3,        /* a bucket that was read is unsound: BCF_TABLE_NUMBER */
+    BCF_FULL = 4,           /* insert, merge: both backyard buckets are full */
+    BCF_ABSENT = 5,         /* delete: no such member */
+    BCF_PAST_THE_END = 6,   /* page: start is above F */
+    BCF_DOES_NOT_FIT = 7,   /* page: bucket start does not fit into the output */
+    BCF_EARLY = 8           /* check, merge: a backyard member before its turn: BCF_TABLE_NUMBER */
+};
+
+#define BCF_NUMBER(answer) ((unsigned)((uint64_t)(answer) >> 56))
+#define BCF_VALUE(answer) ((uint64_t)(answer) & (((uint64_t)1 << 56) - 1))
+
+/* Of a refusal with BCF_UNSOUND or BCF_EARLY. Front bucket f has table number f, backyard bucket
+ * j has F + j. */
+#define BCF_TABLE_NUMBER(answer) BCF_VALUE(answer)
+
+/* Every bucket empty. The image may hold any bytes before. */
+uint64_t bcf_fresh(uint8_t *image, size_t length);
+
+/* Tells whether every bucket is sound and every backyard member in its turn. */
+uint64_t bcf_check(const uint8_t *image, size_t length);
+
+/* Value: 0, or 1 + the backyard bucket that took the overflow. */
+uint64_t bcf_insert(uint8_t *image, size_t length, uint64_t hash);
+
+/* Takes one copy. Value: 0, or 1 + the backyard bucket that a member left. */
+uint64_t bcf_delete(uint8_t *image, size_t length, uint64_t hash);
+
+/* Of an accepted insert or delete: whether a backyard bucket changed, and which. */
+#define BCF_MOVED(answer) (BCF_VALUE(answer) != 0)
+#define BCF_BACKYARD(answer) (BCF_VALUE(answer) - 1)
+
+/* Where the fingerprint is, and the buckets read. */
+uint64_t bcf_ask(const uint8_t *image, size_t length, uint64_t hash);
+
+/* Of an accepted ask. The slot is the lowest one of the fingerprint, 0 where there is none. */
+enum { BCF_NONE = 0, BCF_FRONT = 1, BCF_FIRST = 2, BCF_SECOND = 3 };
+#define BCF_ASK_READS(answer) ((unsigned)(BCF_VALUE(answer) % 16))
+#define BCF_ASK_PLACE(answer) ((unsigned)(BCF_VALUE(answer) / 16 % 16))
+#define BCF_ASK_SLOT(answer) ((unsigned)(BCF_VALUE(answer) / 256))
+
+/* The copies of the fingerprint, and the buckets read. */
+uint64_t bcf_count(const uint8_t *image, size_t length, uint64_t hash);
+
+/* Of an accepted count. */
+#define BCF_COUNT_COPIES(answer) ((uint32_t)BCF_VALUE(answer))
+#define BCF_COUNT_READS(answer) ((uint32_t)(BCF_VALUE(answer) >> 32))
+
+/* Writes the fingerprints of the longest run of whole front buckets from `start` on that fits,
+ * ascending; the rest of the output keeps its content. A walk starts at 0 and follows
+ * BCF_PAGE_NEXT up to F. 72 entries hold any bucket. */
+uint64_t bcf_page(const uint8_t *image, size_t length, uint64_t start, uint64_t *out,
+                  size_t out_length);
+
+/* Of an accepted page. */
+#define BCF_PAGE_HOW_MANY(answer) ((uint32_t)BCF_VALUE(answer))
+#define BCF_PAGE_NEXT(answer) ((uint32_t)(BCF_VALUE(answer) >> 32))
+
+/* Checks both sources, then writes the members of both into the target, which may hold any bytes
+ * before. All three have one length. */
+uint64_t bcf_merge(const uint8_t *first, size_t first_length, const uint8_t *second,
+                   size_t second_length, uint8_t *target, size_t target_length);
+
+#ifdef __cplusplus
+}
+#endif
+
+#endif

@@ -1,0 +1,223 @@
+//! The calls of other implementations, compared with those of the model.
+
+use model::catalogue::Catalogue;
+use model::fingerprint::Fingerprint;
+use model::histories::{self, Kind, KINDS};
+use model::prepare::Player;
+use model::random::Random;
+use model::shape::Shape;
+use model::stored::{Images, Line};
+
+/// Unverified Rust.
+pub struct Fast;
+
+impl Catalogue for Fast {
+    fn fresh(&self, image: &mut [u8]) -> u64 {
+        fast::fresh(image)
+    }
+    fn check(&self, image: &[u8]) -> u64 {
+        fast::check(image)
+    }
+    fn insert(&self, image: &mut [u8], hash: u64) -> u64 {
+        fast::insert(image, hash)
+    }
+    fn delete(&self, image: &mut [u8], hash: u64) -> u64 {
+        fast::delete(image, hash)
+    }
+    fn ask(&self, image: &[u8], hash: u64) -> u64 {
+        fast::ask(image, hash)
+    }
+    fn count(&self, image: &[u8], hash: u64) -> u64 {
+        fast::count(image, hash)
+    }
+    fn page(&self, image: &[u8], start: u64, out: &mut [u64]) -> u64 {
+        fast::page(image, start, out)
+    }
+    fn merge(&self, first: &[u8], second: &[u8], target: &mut [u8]) -> u64 {
+        fast::merge(first, second, target)
+    }
+}
+
+/// The C functions.
+#[cfg(feature = "capi")]
+pub struct Capi;
+
+#[cfg(feature = "capi")]
+impl Catalogue for Capi {
+    fn fresh(&self, image: &mut [u8]) -> u64 {
+        breadcrumb::packed::fresh(image)
+    }
+    fn check(&self, image: &[u8]) -> u64 {
+        breadcrumb::packed::check(image)
+    }
+    fn insert(&self, image: &mut [u8], hash: u64) -> u64 {
+        breadcrumb::packed::insert(image, hash)
+    }
+    fn delete(&self, image: &mut [u8], hash: u64) -> u64 {
+        breadcrumb::packed::delete(image, hash)
+    }
+    fn ask(&self, image: &[u8], hash: u64) -> u64 {
+        breadcrumb::packed::ask(image, hash)
+    }
+    fn count(&self, image: &[u8], hash: u64) -> u64 {
+        breadcrumb::packed::count(image, hash)
+    }
+    fn page(&self, image: &[u8], start: u64, out: &mut [u64]) -> u64 {
+        breadcrumb::packed::page(image, start, out)
+    }
+    fn merge(&self, first: &[u8], second: &[u8], target: &mut [u8]) -> u64 {
+        breadcrumb::packed::merge(first, second, target)
+    }
+}
+
+/// An implementation that performs every line that the model performs.
+pub struct Follower<'a> {
+    catalogue: &'a dyn Catalogue,
+    images: Images,
+    /// Calls compared: their answers, and every byte of images and output.
+    pub compared: u64,
+}
+
+impl<'a> Follower<'a> {
+    pub fn new(catalogue: &'a dyn Catalogue) -> Follower<'a> {
+        Follower {
+            catalogue,
+            images: Images::default(),
+            compared: 0,
+        }
+    }
+
+    /// Performs a line and compares; `expected` are the model's images after it.
+    fn follow(&mut self, line: Line, answer: u64, expected: &Images) {
+        let got = self.images.perform(self.catalogue, line);
+        if !line.is_call() {
+            return;
+        }
+        let text = line.text();
+        assert_eq!(got, answer, "answer {got:016X} for {answer:016X}: {text}");
+        assert_eq!(self.images.out, expected.out, "the output: {text}");
+        for x in line.images() {
+            let (ours, theirs) = (&self.images.image[x], &expected.image[x]);
+            if ours != theirs {
+                let at = ours.iter().zip(theirs).position(|(a, b)| a != b);
+                panic!("image {x} differs from byte {at:?} on: {text}");
+            }
+        }
+        self.compared += 1;
+    }
+
+    /// A random history.
+    pub fn history(&mut self, kind: Kind, b: u64, how_many: usize, seed: u64) {
+        let mut observer = |line: Line, answer: u64, images: &Images| {
+            self.follow(line, answer, images);
+        };
+        let mut player = Player::new(seed, &mut observer);
+        histories::play(&mut player, kind, b, how_many);
+    }
+
+    /// Random histories until so many calls are compared: every B up to 40, then larger ones.
+    pub fn histories(&mut self, how_many: u64, seed: u64) {
+        let mut random = Random::new(seed);
+        let end = self.compared + how_many;
+        let mut at = 0;
+        while self.compared < end {
+            let b = match at {
+                0..40 => at + 1,
+                _ if random.one_in(60) => *random.pick(&[511, 512, 513, 1000, 4096]),
+                _ if random.one_in(8) => 1 + random.below(200),
+                _ => 1 + random.below(40),
+            };
+            for kind in KINDS {
+                let seed = random.bits();
+                let length = 20 + random.below(400) as usize;
+                // Named before it runs, so that a difference tells where it came from.
+                self.told(kind, b, length, seed);
+            }
+            at += 1;
+        }
+    }
+
+    fn told(&mut self, kind: Kind, b: u64, length: usize, seed: u64) {
+        let told = std::panic::AssertUnwindSafe(|| self.history(kind, b, length, seed));
+        if let Err(difference) = std::panic::catch_unwind(told) {
+            eprintln!("in the history {kind:?}, B = {b}, {length} calls, seed {seed}");
+            std::panic::resume_unwind(difference);
+        }
+    }
+
+    /// The shortest and the longest image, and lengths on either side.
+    pub fn ends(&mut self) {
+        let mut observer = |line: Line, answer: u64, images: &Images| {
+            self.follow(line, answer, images);
+        };
+        let p = &mut Player::new(1, &mut observer);
+        for length in [1024, 37_749_184] {
+            for wrong in [length - 1, length + 1, length - 576, length + 576] {
+                if Shape::of_length(wrong).is_none() {
+                    wrong_length(p, wrong);
+                }
+            }
+            p.play(Line::New { x: 0, length });
+            calls_at_ends(p);
+            p.play(Line::Fresh { x: 0 });
+            calls_at_ends(p);
+            p.play(Line::New { x: 1, length });
+            p.play(Line::New { x: 2, length });
+            p.merge(0, 1, 2);
+            p.merge(0, 0, 2);
+            p.check(2);
+        }
+        for x in 0..3 {
+            p.play(Line::New { x, length: 0 });
+        }
+    }
+}
+
+fn wrong_length(p: &mut Player, length: usize) {
+    p.play(Line::New { x: 0, length });
+    p.play(Line::Fresh { x: 0 });
+    p.check(0);
+    p.page(0, 0, 1);
+    for hash in [0, u64::MAX] {
+        p.play(Line::Insert { x: 0, hash });
+        p.play(Line::Delete { x: 0, hash });
+        p.play(Line::Ask { x: 0, hash });
+        p.play(Line::Count { x: 0, hash });
+    }
+    p.merge(0, 0, 1);
+}
+
+/// Calls on the first and the last front bucket, and on one in between until it is full.
+fn calls_at_ends(p: &mut Player) {
+    let fronts = p.shape(0).fronts();
+    for hash in [0, u64::MAX, 0x8000000040000007] {
+        p.play(Line::Ask { x: 0, hash });
+        p.play(Line::Insert { x: 0, hash });
+        p.play(Line::Insert { x: 0, hash });
+        p.play(Line::Delete { x: 0, hash });
+        p.play(Line::Count { x: 0, hash });
+        p.play(Line::Ask { x: 0, hash });
+    }
+    for front in [fronts - 1, fronts * 5 / 7] {
+        let mut n = 0;
+        while n < 80 && p.images.image[0][0] != 0 {
+            let (mini, tag) = (35 - n % 36, 60000 + 64 * n);
+            if p.insert(0, Fingerprint { front, mini, tag }) >> 56 != 0 {
+                break;
+            }
+            n += 1;
+        }
+        for n in [0, 30, 60] {
+            let (mini, tag) = (35 - n % 36, 60000 + 64 * n);
+            p.look(0, Fingerprint { front, mini, tag });
+            p.delete(0, Fingerprint { front, mini, tag });
+        }
+        p.page(0, front, 40);
+        p.page(0, front, 90);
+    }
+    for start in [0, fronts - 1, fronts, fronts + 1] {
+        p.page(0, start, 0);
+        p.page(0, start, 100);
+    }
+    p.check(0);
+}

@@ -1,0 +1,69 @@
+//! Compares an implementation with the model.
+//!
+//!     differential CALLS SEED [fast | capi]
+//!     differential vectors FILE [fast | capi]
+//!
+//! The first plays random histories until so many calls are compared, and once the shortest and
+//! the longest image. The second replays the calls of another model. `capi` is there with the
+//! feature of that name, and then is what is compared.
+
+use differential::{Fast, Follower};
+use model::catalogue::Catalogue;
+
+#[cfg(feature = "capi")]
+const DEFAULT: &str = "capi";
+#[cfg(not(feature = "capi"))]
+const DEFAULT: &str = "fast";
+
+fn implementation(name: &str) -> Option<&'static dyn Catalogue> {
+    match name {
+        "fast" => Some(&Fast),
+        #[cfg(feature = "capi")]
+        "capi" => Some(&differential::Capi),
+        _ => None,
+    }
+}
+
+fn main() {
+    let arguments: Vec<String> = std::env::args().skip(1).collect();
+    let word = |at: usize| arguments.get(at).map(String::as_str);
+    let number = |at: usize| word(at).and_then(|word| word.parse::<u64>().ok());
+    let name = word(2).unwrap_or(DEFAULT);
+    let Some(catalogue) = implementation(name) else {
+        return usage();
+    };
+    match (word(0), number(0), number(1)) {
+        (Some("vectors"), _, _) => vectors(catalogue, name, word(1).unwrap_or_default()),
+        (_, Some(calls), Some(seed)) => histories(catalogue, name, calls, seed),
+        _ => usage(),
+    }
+}
+
+fn usage() {
+    eprintln!("usage: differential CALLS SEED [fast | capi]");
+    eprintln!("       differential vectors FILE [fast | capi]");
+    std::process::exit(2);
+}
+
+fn histories(catalogue: &dyn Catalogue, name: &str, calls: u64, seed: u64) {
+    let mut follower = Follower::new(catalogue);
+    follower.ends();
+    let ends = follower.compared;
+    follower.histories(calls, seed);
+    let all = follower.compared;
+    println!("{name}: {all} calls compared with the model, none differs");
+    println!("({ends} of them on the shortest and the longest image)");
+}
+
+fn vectors(catalogue: &dyn Catalogue, name: &str, path: &str) {
+    let lines = std::fs::read_to_string(path).expect("a readable file");
+    let replayed = model::vectors::replay(catalogue, &lines);
+    for difference in &replayed.differences {
+        println!("{difference}");
+    }
+    let (all, differ) = (replayed.compared, replayed.differences.len());
+    println!("{name}: {all} calls compared, {differ} differ");
+    if differ > 0 {
+        std::process::exit(1);
+    }
+}

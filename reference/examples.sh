@@ -1,0 +1,19 @@
+#!/usr/bin/env bash
+# Builds and runs the example in C and the one in Rust, and compares what they print.
+# CAPI_LIB_DIR names the folder with libcapi.a.
+set -euo pipefail
+: "${CAPI_LIB_DIR:?must name the folder with libcapi.a}"
+CAPI_LIB_DIR=$(cd "$CAPI_LIB_DIR" && pwd)
+export CAPI_LIB_DIR
+cd "$(dirname "$0")"
+mkdir -p target
+
+"${CC:-cc}" -std=c99 -O2 -Wall -Wextra -Werror -I ../include examples/day.c \
+    "$CAPI_LIB_DIR/libcapi.a" -o target/day-c
+target/day-c | tee target/day-c.txt
+
+cargo build --quiet --release -p breadcrumb --example day
+target/release/examples/day > target/day-rust.txt
+
+cmp target/day-c.txt target/day-rust.txt
+echo "C and Rust print the same"

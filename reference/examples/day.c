@@ -1,0 +1,92 @@
+/*
+ * A day of readings from C: 96 quarter hours of 20 houses are filed, asked for, taken out and
+ * merged with another day. Prints the same as the example in Rust.
+ */
+#include "breadcrumb.h"
+
+#include <inttypes.h>
+#include <stdio.h>
+#include <stdlib.h>
+
+enum { B = 20, HOUSES = 20, QUARTERS = 96 };
+
+static uint8_t today[576 * B + 448], tomorrow[576 * B + 448], both[576 * B + 448];
+
+/* SplitMix64's finaliser. */
+static uint64_t hash_of(uint64_t house, uint64_t quarter)
+{
+    uint64_t z = house << 32 | quarter;
+    z = (z ^ z >> 30) * UINT64_C(0xBF58476D1CE4E5B9);
+    z = (z ^ z >> 27) * UINT64_C(0x94D049BB133111EB);
+    return z ^ z >> 31;
+}
+
+/* The value of an accepted answer; anything else ends the program. */
+static uint64_t value(uint64_t answer)
+{
+    if (BCF_NUMBER(answer) != BCF_ACCEPTED) {
+        printf("refused with %u, %" PRIu64 "\n", BCF_NUMBER(answer), BCF_VALUE(answer));
+        exit(1);
+    }
+    return BCF_VALUE(answer);
+}
+
+static void file_day(uint8_t *image, uint64_t from)
+{
+    int behind = 0;
+    value(bcf_fresh(image, BCF_LENGTH(B)));
+    for (uint64_t house = 0; house < HOUSES; house++)
+        for (uint64_t quarter = from; quarter < from + QUARTERS; quarter++)
+            behind += value(bcf_insert(image, BCF_LENGTH(B), hash_of(house, quarter))) != 0;
+    value(bcf_check(image, BCF_LENGTH(B)));
+    printf("filed %d readings, %d times with overflow\n", HOUSES * QUARTERS, behind);
+}
+
+/* Walks the pages of an image. */
+static void list(const char *name, const uint8_t *image)
+{
+    uint64_t out[100], next = 0, members = 0, last = 0;
+    int pages = 0;
+    while (next < BCF_FRONTS(B)) {
+        uint64_t answer = bcf_page(image, BCF_LENGTH(B), next, out, 100);
+        value(answer);
+        members += BCF_PAGE_HOW_MANY(answer);
+        if (BCF_PAGE_HOW_MANY(answer) > 0)
+            last = out[BCF_PAGE_HOW_MANY(answer) - 1];
+        next = BCF_PAGE_NEXT(answer);
+        pages++;
+    }
+    printf("%s: %" PRIu64 " members on %d pages, the last %" PRIu64 "\n", name, members, pages, last);
+}
+
+int main(void)
+{
+    file_day(today, 0);
+    file_day(tomorrow, QUARTERS);
+    list("today", today);
+
+    uint64_t asked = bcf_ask(today, sizeof today, hash_of(7, 30));
+    value(asked);
+    printf("house 7, quarter 30: place %u, slot %u, %u reads\n", BCF_ASK_PLACE(asked),
+           BCF_ASK_SLOT(asked), BCF_ASK_READS(asked));
+    asked = bcf_ask(today, sizeof today, hash_of(99, 30));
+    value(asked);
+    printf("house 99, quarter 30: place %u\n", BCF_ASK_PLACE(asked));
+
+    value(bcf_insert(today, sizeof today, hash_of(7, 30)));
+    uint64_t counted = bcf_count(today, sizeof today, hash_of(7, 30));
+    value(counted);
+    printf("filed twice: %u copies\n", BCF_COUNT_COPIES(counted));
+    value(bcf_delete(today, sizeof today, hash_of(7, 30)));
+    value(bcf_delete(today, sizeof today, hash_of(7, 30)));
+    printf("taken out a third time: %u\n",
+           BCF_NUMBER(bcf_delete(today, sizeof today, hash_of(7, 30))));
+
+    value(bcf_merge(today, sizeof today, tomorrow, sizeof tomorrow, both, sizeof both));
+    list("both days", both);
+    both[0] = 0xFF;
+    both[1] = 0xFF;
+    uint64_t damaged = bcf_check(both, sizeof both);
+    printf("damaged: %u in bucket %" PRIu64 "\n", BCF_NUMBER(damaged), BCF_TABLE_NUMBER(damaged));
+    return 0;
+}

@@ -1,0 +1,581 @@
+//! The breadcrumb catalogue in unverified Rust: the yardstick for speed.
+//!
+//! The calls, their answers and the bytes they leave are those of document 01; every bucket
+//! that a call reads is first read whole and found sound. Answers are packed as at the C
+//! boundary: number × 2^56 + value. Indices are not tested at run time (`unsafe`), which stands
+//! for proved bounds. No vector instructions.
+
+mod bits;
+mod bucket;
+mod map;
+
+use bucket::{Read, BACKYARD_SLOTS, FRONT_SLOTS};
+use map::{Homes, Shape};
+
+/// A refusal with no table number.
+const fn refused(number: u64) -> u64 {
+    number << 56
+}
+
+#[cold]
+fn unsound(table: u32) -> u64 {
+    refused(3) + table as u64
+}
+
+/// The bucket with this table number.
+#[inline(always)]
+unsafe fn at(image: &[u8], table: u32) -> *const u8 {
+    debug_assert!(64 * (table as usize + 1) <= image.len());
+    image.as_ptr().add(64 * table as usize)
+}
+
+#[inline(always)]
+unsafe fn at_mut(image: &mut [u8], table: u32) -> *mut u8 {
+    debug_assert!(64 * (table as usize + 1) <= image.len());
+    image.as_mut_ptr().add(64 * table as usize)
+}
+
+/// Both backyard buckets of a front bucket, read whole, with the members below f's key in each.
+struct Behind {
+    homes: Homes,
+    table0: u32,
+    table1: u32,
+    key0: u32,
+    key1: u32,
+    read0: Read,
+    read1: Read,
+}
+
+/// Reads b0, then b1; the refusal of the first unsound one.
+#[inline(always)]
+unsafe fn read_behind(image: &[u8], shape: Shape, f: u32, key: u32) -> Result<Behind, u64> {
+    let homes = shape.homes(f);
+    let (table0, table1) = (shape.fronts() + homes.b0, shape.fronts() + homes.b1);
+    let (key0, key1) = (key << 4 | homes.crumb0, key << 4 | homes.crumb1);
+    let valid0 = shape.valid(homes.b0);
+    let Some(read0) = bucket::read_backyard(at(image, table0), valid0, key0) else {
+        return Err(unsound(table0));
+    };
+    let valid1 = shape.valid_at(homes.b1, homes.crumb0, homes.b0 / 8);
+    let Some(read1) = bucket::read_backyard(at(image, table1), valid1, key1) else {
+        return Err(unsound(table1));
+    };
+    Ok(Behind {
+        homes,
+        table0,
+        table1,
+        key0,
+        key1,
+        read0,
+        read1,
+    })
+}
+
+#[inline(never)]
+pub fn fresh(image: &mut [u8]) -> u64 {
+    let Some(shape) = Shape::of_length(image.len()) else {
+        return refused(1);
+    };
+    for table in 0..shape.fronts() + shape.backyards() {
+        unsafe { bucket::clear(at_mut(image, table)) };
+    }
+    0
+}
+
+#[inline(never)]
+pub fn insert(image: &mut [u8], hash: u64) -> u64 {
+    let Some(shape) = Shape::of_length(image.len()) else {
+        return refused(1);
+    };
+    let g = shape.fingerprint(hash);
+    unsafe {
+        let front = at_mut(image, g.front);
+        let Some(read) = bucket::read_front(front, g.key) else {
+            return unsound(g.front);
+        };
+        if read.word >> 63 == 0 {
+            bucket::insert_front(front, read.word, read.below, g.key);
+            return 0;
+        }
+        insert_full(image, shape, g.front, g.key, read)
+    }
+}
+
+/// An insert where the front bucket holds 28.
+#[inline(always)]
+unsafe fn insert_full(image: &mut [u8], shape: Shape, f: u32, key: u32, read: Read) -> u64 {
+    // The one that goes behind: the largest of the 28 and the new one.
+    let front = at_mut(image, f);
+    let overflow = if read.below == FRONT_SLOTS {
+        key
+    } else {
+        bucket::largest(front, read.word)
+    };
+    let behind = match read_behind(image, shape, f, overflow) {
+        Ok(behind) => behind,
+        Err(refusal) => return refusal,
+    };
+    let (n0, n1) = (
+        bucket::members(behind.read0.word),
+        bucket::members(behind.read1.word),
+    );
+    if n0 == BACKYARD_SLOTS && n1 == BACKYARD_SLOTS {
+        return refused(4);
+    }
+    if read.below < FRONT_SLOTS {
+        bucket::push_front(front, read.word, read.below, key);
+    }
+    if n0 < n1 {
+        let b = at_mut(image, behind.table0);
+        bucket::insert_backyard(b, behind.read0.word, behind.read0.below, behind.key0);
+        1 + behind.homes.b0 as u64
+    } else {
+        let b = at_mut(image, behind.table1);
+        bucket::insert_backyard(b, behind.read1.word, behind.read1.below, behind.key1);
+        1 + behind.homes.b1 as u64
+    }
+}
+
+#[inline(never)]
+pub fn delete(image: &mut [u8], hash: u64) -> u64 {
+    let Some(shape) = Shape::of_length(image.len()) else {
+        return refused(1);
+    };
+    let g = shape.fingerprint(hash);
+    unsafe {
+        let front = at_mut(image, g.front);
+        let Some(read) = bucket::read_front(front, g.key) else {
+            return unsound(g.front);
+        };
+        if bucket::found_front(front, read, g.key) {
+            if read.word >> 63 == 1 {
+                return delete_refilled(image, shape, g.front, g.key, read);
+            }
+            bucket::remove_front(front, read.word, read.below, g.key);
+            return 0;
+        }
+        if read.below < FRONT_SLOTS {
+            return refused(5);
+        }
+        delete_behind(image, shape, g.front, g.key)
+    }
+}
+
+/// A delete from a front bucket that holds 28.
+#[inline(always)]
+unsafe fn delete_refilled(image: &mut [u8], shape: Shape, f: u32, key: u32, read: Read) -> u64 {
+    let behind = match read_behind(image, shape, f, 0) {
+        Ok(behind) => behind,
+        Err(refusal) => return refusal,
+    };
+    let (b0, b1) = (at(image, behind.table0), at(image, behind.table1));
+    let (word0, word1) = (behind.read0.word, behind.read1.word);
+    let first = bucket::first_with_crumb(b0, word0, behind.homes.crumb0);
+    let second = bucket::first_with_crumb(b1, word1, behind.homes.crumb1);
+    let key_of = |b: *const u8, word: u64, slot: u32| {
+        bucket::mini_of(word, slot) << 16 | bucket::tag(b, slot)
+    };
+    let from_first = match (first, second) {
+        (None, None) => {
+            bucket::remove_front(at_mut(image, f), read.word, read.below, key);
+            return 0;
+        }
+        (Some(_), None) => true,
+        (None, Some(_)) => false,
+        (Some(s), Some(t)) => {
+            let (x, y) = (key_of(b0, word0, s), key_of(b1, word1, t));
+            let more = bucket::members(word0) > bucket::members(word1);
+            x < y || (x == y && more)
+        }
+    };
+    let (table, word, slot, crumb, j) = if from_first {
+        let slot = first.unwrap_unchecked();
+        (
+            behind.table0,
+            word0,
+            slot,
+            behind.homes.crumb0,
+            behind.homes.b0,
+        )
+    } else {
+        let slot = second.unwrap_unchecked();
+        (
+            behind.table1,
+            word1,
+            slot,
+            behind.homes.crumb1,
+            behind.homes.b1,
+        )
+    };
+    let refill = key_of(at(image, table), word, slot);
+    bucket::remove_backyard(at_mut(image, table), word, slot, refill << 4 | crumb);
+    let front = at_mut(image, f);
+    bucket::remove_front(front, read.word, read.below, key);
+    let rest = bucket::word(front);
+    let place = bucket::rank_front(front, rest, refill);
+    bucket::insert_front(front, rest, place, refill);
+    1 + j as u64
+}
+
+/// A delete of a key above all 28 of its front bucket.
+#[inline(always)]
+unsafe fn delete_behind(image: &mut [u8], shape: Shape, f: u32, key: u32) -> u64 {
+    let behind = match read_behind(image, shape, f, key) {
+        Ok(behind) => behind,
+        Err(refusal) => return refusal,
+    };
+    let (word0, word1) = (behind.read0.word, behind.read1.word);
+    let first = bucket::found_backyard(at(image, behind.table0), behind.read0, behind.key0);
+    let second = bucket::found_backyard(at(image, behind.table1), behind.read1, behind.key1);
+    if !first && !second {
+        return refused(5);
+    }
+    if first && (!second || bucket::members(word0) > bucket::members(word1)) {
+        let b = at_mut(image, behind.table0);
+        bucket::remove_backyard(b, word0, behind.read0.below, behind.key0);
+        1 + behind.homes.b0 as u64
+    } else {
+        let b = at_mut(image, behind.table1);
+        bucket::remove_backyard(b, word1, behind.read1.below, behind.key1);
+        1 + behind.homes.b1 as u64
+    }
+}
+
+#[inline(always)]
+fn asked(reads: u64, place: u64, slot: u32) -> u64 {
+    reads + 16 * place + 256 * slot as u64
+}
+
+#[inline(never)]
+pub fn ask(image: &[u8], hash: u64) -> u64 {
+    let Some(shape) = Shape::of_length(image.len()) else {
+        return refused(1);
+    };
+    let g = shape.fingerprint(hash);
+    unsafe {
+        let front = at(image, g.front);
+        let Some(read) = bucket::read_front(front, g.key) else {
+            return unsound(g.front);
+        };
+        if bucket::found_front(front, read, g.key) {
+            return asked(1, 1, read.below);
+        }
+        if read.below < FRONT_SLOTS {
+            return asked(1, 0, 0);
+        }
+        let homes = shape.homes(g.front);
+        let table = shape.fronts() + homes.b0;
+        let key = g.key << 4 | homes.crumb0;
+        let b = at(image, table);
+        let Some(read) = bucket::read_backyard(b, shape.valid(homes.b0), key) else {
+            return unsound(table);
+        };
+        if bucket::found_backyard(b, read, key) {
+            return asked(2, 2, read.below);
+        }
+        let table = shape.fronts() + homes.b1;
+        let key = g.key << 4 | homes.crumb1;
+        let b = at(image, table);
+        let valid = shape.valid_at(homes.b1, homes.crumb0, homes.b0 / 8);
+        let Some(read) = bucket::read_backyard(b, valid, key) else {
+            return unsound(table);
+        };
+        if bucket::found_backyard(b, read, key) {
+            return asked(3, 3, read.below);
+        }
+        asked(3, 0, 0)
+    }
+}
+
+#[inline(never)]
+pub fn count(image: &[u8], hash: u64) -> u64 {
+    let Some(shape) = Shape::of_length(image.len()) else {
+        return refused(1);
+    };
+    let g = shape.fingerprint(hash);
+    unsafe {
+        let front = at(image, g.front);
+        let Some(read) = bucket::read_front(front, g.key) else {
+            return unsound(g.front);
+        };
+        let copies = bucket::copies_front(front, read, g.key);
+        if read.below + copies < FRONT_SLOTS {
+            return copies as u64 + (1 << 32);
+        }
+        let behind = match read_behind(image, shape, g.front, g.key) {
+            Ok(behind) => behind,
+            Err(refusal) => return refusal,
+        };
+        let (b0, b1) = (at(image, behind.table0), at(image, behind.table1));
+        let first = bucket::copies_backyard(b0, behind.read0, behind.key0);
+        let second = bucket::copies_backyard(b1, behind.read1, behind.key1);
+        (copies + first + second) as u64 + (3 << 32)
+    }
+}
+
+/// Gathers the members of front bucket f of an image whose buckets are sound, ascending; those
+/// behind only where the front bucket holds 28. How many.
+#[inline(always)]
+unsafe fn gather(image: &[u8], shape: Shape, f: u32, keys: &mut [u32; 72]) -> usize {
+    let front = at(image, f);
+    let word = bucket::word(front);
+    let n = bucket::keys_front(front, word, keys);
+    if word >> 63 == 0 {
+        return n;
+    }
+    let homes = shape.homes(f);
+    let b0 = at(image, shape.fronts() + homes.b0);
+    let b1 = at(image, shape.fronts() + homes.b1);
+    let first = bucket::keys_with_crumb(b0, bucket::word(b0), homes.crumb0, keys, n);
+    let end = bucket::keys_with_crumb(b1, bucket::word(b1), homes.crumb1, keys, first);
+    // Short and nearly in order: insertion sort.
+    for i in n..end {
+        let key = *keys.get_unchecked(i);
+        let mut to = i;
+        while to > 0 && *keys.get_unchecked(to - 1) > key {
+            *keys.get_unchecked_mut(to) = *keys.get_unchecked(to - 1);
+            to -= 1;
+        }
+        *keys.get_unchecked_mut(to) = key;
+    }
+    end
+}
+
+#[inline(never)]
+pub fn page(image: &[u8], start: u64, out: &mut [u64]) -> u64 {
+    let Some(shape) = Shape::of_length(image.len()) else {
+        return refused(1);
+    };
+    let fronts = shape.fronts();
+    if start > fronts as u64 {
+        return refused(6);
+    }
+    let start = start as u32;
+    unsafe {
+        // One pass reads and counts.
+        let (mut next, mut total) = (start, 0);
+        let mut known = u32::MAX; // the last b0 found sound
+        while next < fronts {
+            let front = at(image, next);
+            let Some(read) = bucket::read_front(front, 0) else {
+                return unsound(next);
+            };
+            let mut here = bucket::members(read.word);
+            if here == FRONT_SLOTS {
+                let homes = shape.homes(next);
+                let (table0, table1) = (fronts + homes.b0, fronts + homes.b1);
+                let (b0, b1) = (at(image, table0), at(image, table1));
+                if known != homes.b0 {
+                    if bucket::read_backyard(b0, shape.valid(homes.b0), 0).is_none() {
+                        return unsound(table0);
+                    }
+                    known = homes.b0;
+                }
+                let valid = shape.valid_at(homes.b1, homes.crumb0, homes.b0 / 8);
+                if bucket::read_backyard(b1, valid, 0).is_none() {
+                    return unsound(table1);
+                }
+                here += bucket::count_crumb(b0, bucket::word(b0), homes.crumb0);
+                here += bucket::count_crumb(b1, bucket::word(b1), homes.crumb1);
+            }
+            if total + here as usize > out.len() {
+                break;
+            }
+            total += here as usize;
+            next += 1;
+        }
+        if next == start && start < fronts {
+            return refused(7);
+        }
+        // A second pass writes.
+        let mut keys = [0; 72];
+        let mut to = 0;
+        for f in start..next {
+            let n = gather(image, shape, f, &mut keys);
+            let base = f as u64 * (36 << 16);
+            for i in 0..n {
+                *out.get_unchecked_mut(to + i) = base + *keys.get_unchecked(i) as u64;
+            }
+            to += n;
+        }
+        total as u64 + ((next as u64) << 32)
+    }
+}
+
+#[inline(never)]
+pub fn check(image: &[u8]) -> u64 {
+    let Some(shape) = Shape::of_length(image.len()) else {
+        return refused(1);
+    };
+    let fronts = shape.fronts();
+    unsafe {
+        for f in 0..fronts {
+            if bucket::read_front(at(image, f), 0).is_none() {
+                return unsound(f);
+            }
+        }
+        let mut early = 0;
+        let (mut e, mut t) = (0, 0);
+        for j in 0..shape.backyards() {
+            let b = at(image, fronts + j);
+            let valid = shape.valid_at(j, e, t);
+            let Some(read) = bucket::read_backyard(b, valid, 0) else {
+                return unsound(fronts + j);
+            };
+            if early == 0 && !in_turn(image, shape, j, e, t, read.word) {
+                early = refused(8) + (fronts + j) as u64;
+            }
+            t += 1;
+            if t == shape.k {
+                (e, t) = (e + 1, 0);
+            }
+        }
+        early
+    }
+}
+
+/// Whether the front bucket of each member of backyard bucket j holds 28, none larger than it.
+#[inline(always)]
+unsafe fn in_turn(image: &[u8], shape: Shape, j: u32, e: u32, t: u32, word: u64) -> bool {
+    let b = at(image, shape.fronts() + j);
+    let mut zeros = !word;
+    for slot in 0..bucket::members(word) {
+        let mini = bits::lowest_one(zeros) - slot;
+        zeros &= zeros - 1;
+        let f = shape.front_of(j, e, t, bucket::crumb(b, slot));
+        let front = at(image, f);
+        let full = bucket::word(front);
+        let key = mini << 16 | bucket::tag(b, slot);
+        if full >> 63 == 0 || bucket::largest(front, full) > key {
+            return false;
+        }
+    }
+    true
+}
+
+#[inline(never)]
+pub fn merge(first: &[u8], second: &[u8], target: &mut [u8]) -> u64 {
+    let Some(shape) = Shape::of_length(first.len()) else {
+        return refused(1);
+    };
+    if Shape::of_length(second.len()).is_none() || Shape::of_length(target.len()).is_none() {
+        return refused(1);
+    }
+    if first.len() != second.len() || first.len() != target.len() {
+        return refused(2);
+    }
+    for source in [first, second] {
+        let refusal = check(source);
+        if refusal != 0 {
+            return refusal;
+        }
+    }
+    unsafe {
+        for j in 0..shape.backyards() {
+            bucket::clear(at_mut(target, shape.fronts() + j));
+        }
+        for f in 0..shape.fronts() {
+            if !merge_front(first, second, target, shape, f) {
+                fresh(target);
+                return refused(4);
+            }
+        }
+    }
+    0
+}
+
+/// Merges one front bucket and its overflow into the target; whether there was room.
+#[inline(always)]
+unsafe fn merge_front(
+    first: &[u8],
+    second: &[u8],
+    target: &mut [u8],
+    shape: Shape,
+    f: u32,
+) -> bool {
+    let (mut keys0, mut keys1) = ([0; 72], [0; 72]);
+    let front = at_mut(target, f);
+    let words = (bucket::word(at(first, f)), bucket::word(at(second, f)));
+    // Where just one has members, its 64 bytes serve.
+    if words.0 == bucket::EMPTY || words.1 == bucket::EMPTY {
+        let (source, word) = if words.1 == bucket::EMPTY {
+            (first, words.0)
+        } else {
+            (second, words.1)
+        };
+        std::ptr::copy_nonoverlapping(at(source, f), front, 64);
+        if word >> 63 == 0 {
+            return true;
+        }
+        let n = gather(source, shape, f, &mut keys0);
+        return overflow(target, shape, f, keys0.get_unchecked(28..n).iter());
+    }
+    let n = gather(first, shape, f, &mut keys0);
+    let m = gather(second, shape, f, &mut keys1);
+    if n > 28 && !overflow(target, shape, f, keys0.get_unchecked(28..n).iter()) {
+        return false;
+    }
+    // Each of the second's either pushes the first's largest out or goes behind itself, and then
+    // so do all after it.
+    let (mut kept, mut taken) = (n.min(28), 0);
+    let top = kept;
+    while taken < m {
+        let new = *keys1.get_unchecked(taken);
+        if kept + taken == 28 {
+            if kept == 0 || *keys0.get_unchecked(kept - 1) <= new {
+                break;
+            }
+            kept -= 1;
+        }
+        taken += 1;
+    }
+    let mut keys = [0; 28];
+    let (mut i, mut j) = (0, 0);
+    for to in 0..kept + taken {
+        let from_first =
+            j == taken || (i < kept && *keys0.get_unchecked(i) <= *keys1.get_unchecked(j));
+        let key = if from_first {
+            i += 1;
+            *keys0.get_unchecked(i - 1)
+        } else {
+            j += 1;
+            *keys1.get_unchecked(j - 1)
+        };
+        *keys.get_unchecked_mut(to) = key;
+    }
+    bucket::write_front(front, keys.get_unchecked(..kept + taken));
+    overflow(
+        target,
+        shape,
+        f,
+        keys0.get_unchecked(kept..top).iter().rev(),
+    ) && overflow(target, shape, f, keys1.get_unchecked(taken..m).iter())
+}
+
+/// Puts overflow of f into the target's backyard buckets, in this order; whether there was room.
+#[inline(always)]
+unsafe fn overflow<'a>(
+    target: &mut [u8],
+    shape: Shape,
+    f: u32,
+    keys: impl Iterator<Item = &'a u32>,
+) -> bool {
+    let homes = shape.homes(f);
+    let b0 = at_mut(target, shape.fronts() + homes.b0);
+    let b1 = at_mut(target, shape.fronts() + homes.b1);
+    for key in keys {
+        let (word0, word1) = (bucket::word(b0), bucket::word(b1));
+        let (n0, n1) = (bucket::members(word0), bucket::members(word1));
+        let (b, word, crumb) = if n0 < n1 {
+            (b0, word0, homes.crumb0)
+        } else if n1 < BACKYARD_SLOTS {
+            (b1, word1, homes.crumb1)
+        } else {
+            return false;
+        };
+        let key = key << 4 | crumb;
+        let slot = bucket::rank_backyard(b, word, key);
+        bucket::insert_backyard(b, word, slot, key);
+    }
+    true
+}

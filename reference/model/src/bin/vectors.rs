@@ -1,0 +1,17 @@
+//! Replays calls of another model from a text file: `vectors FILE`.
+
+use model::catalogue::Model;
+
+fn main() {
+    let path = std::env::args().nth(1).expect("usage: vectors FILE");
+    let lines = std::fs::read_to_string(path).expect("a readable file");
+    let replayed = model::vectors::replay(&Model, &lines);
+    for difference in &replayed.differences {
+        println!("{difference}");
+    }
+    let differ = replayed.differences.len();
+    println!("{} calls compared, {differ} differ", replayed.compared);
+    if differ > 0 {
+        std::process::exit(1);
+    }
+}

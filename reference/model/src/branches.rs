@@ -1,0 +1,756 @@
+//! The branches of the machine that a call takes, by name.
+//!
+//! The stored calls must take every one of `ALL`.
+
+use crate::bucket::{Bytes, Member};
+use crate::calls::{bag, members, read_backyard, read_front, Bag};
+use crate::fingerprint::Fingerprint;
+use crate::shape::{Shape, BUCKET};
+use crate::stored::{Images, Line};
+
+pub const ALL: &[&str] = &[
+    "fresh: 1",
+    "fresh: accepted",
+    "insert: 1",
+    "insert: 3 in front",
+    "insert: 3 in b0",
+    "insert: 3 in b1",
+    "insert: 4",
+    "insert: 4, b0 = b1",
+    "insert: room",
+    "insert: room, 28th member",
+    "insert: room, members behind",
+    "insert: room, unsound behind",
+    "insert: first",
+    "insert: first, b1 holds 22",
+    "insert: second",
+    "insert: second, b0 holds 22",
+    "insert: tie",
+    "insert: b0 = b1",
+    "insert: the new one overflows",
+    "insert: equal to the largest",
+    "insert: the largest overflows",
+    "delete: 1",
+    "delete: 3 in front",
+    "delete: 5, room in front",
+    "delete: 5, room in front, copy behind",
+    "delete: 5, below the largest",
+    "delete: 5, below the largest, copy behind",
+    "delete: 5, none behind",
+    "delete: 5, another front bucket's equal behind",
+    "delete: front, no refill",
+    "delete: front, no refill, members behind",
+    "delete: front, no refill, unsound behind",
+    "delete: refill, 3 in b0",
+    "delete: refill, 3 in b1",
+    "delete: refill, none",
+    "delete: refill, from first alone",
+    "delete: refill, from first, second larger",
+    "delete: refill, from second alone",
+    "delete: refill, from second, first larger",
+    "delete: refill, both, n0 > n1",
+    "delete: refill, both, tie",
+    "delete: refill, both, n0 < n1",
+    "delete: refill, b0 = b1",
+    "delete: refill, copies of g behind",
+    "delete: refill, smaller than the front's largest",
+    "delete: refill, another front bucket's equal beside",
+    "delete: behind, 3 in b0",
+    "delete: behind, 3 in b1",
+    "delete: behind, from first alone",
+    "delete: behind, from second alone",
+    "delete: behind, both, n0 > n1",
+    "delete: behind, both, tie",
+    "delete: behind, both, n0 < n1",
+    "delete: behind, b0 = b1",
+    "delete: behind, another front bucket's equal beside",
+    "ask: 1",
+    "ask: 3 in front",
+    "ask: 3 in b0",
+    "ask: 3 in b1",
+    "ask: front",
+    "ask: front, equal to the largest of 28",
+    "ask: none, room in front",
+    "ask: none, below the largest",
+    "ask: first",
+    "ask: first, b1 unsound",
+    "ask: first, b0 = b1",
+    "ask: second",
+    "ask: second, b0 = b1",
+    "ask: none, 3 reads",
+    "ask: slot above 0",
+    "count: 1",
+    "count: 3 in front",
+    "count: 3 in b0",
+    "count: 3 in b1",
+    "count: room in front",
+    "count: below the largest",
+    "count: equal to the largest",
+    "count: equal to the largest, copies behind",
+    "count: above the largest",
+    "count: copies in first and second",
+    "count: b0 = b1",
+    "page: 1",
+    "page: 6",
+    "page: 6, unsound image",
+    "page: from F",
+    "page: 7",
+    "page: 7, later bucket unsound",
+    "page: 3 in front",
+    "page: 3 in b0",
+    "page: 3 in b1",
+    "page: 3, the bucket would not fit",
+    "page: 3, after a full output",
+    "page: up to F",
+    "page: stops",
+    "page: none written, next s + 1",
+    "page: empty buckets after a full output",
+    "page: overflow listed",
+    "page: overflow in first and second",
+    "page: members behind left out",
+    "page: room left over",
+    "check: 1",
+    "check: 3 in front",
+    "check: 3 in the backyard",
+    "check: 3 before 8",
+    "check: 8, room in front",
+    "check: 8, below the largest",
+    "check: 8, several",
+    "check: accepted",
+    "check: accepted, overflow",
+    "check: accepted, overflow equal to the largest",
+    "merge: 1, first",
+    "merge: 1, second",
+    "merge: 1, target",
+    "merge: 2, second",
+    "merge: 2, target",
+    "merge: 3, first",
+    "merge: 8, first",
+    "merge: 8, first, second unsound",
+    "merge: 3, second",
+    "merge: 8, second",
+    "merge: 4",
+    "merge: 4, second empty",
+    "merge: accepted",
+    "merge: accepted, one source twice",
+    "merge: accepted, target unsound before",
+    "merge: front of neither",
+    "merge: front of first alone",
+    "merge: front of second alone",
+    "merge: front of first alone, overflow",
+    "merge: front of second alone, overflow",
+    "merge: fronts of both, room",
+    "merge: fronts of both, overflow",
+    "merge: choice 0 becomes 1 where b0 = b1",
+    "unsound: front, zero word",
+    "unsound: front, too few ones",
+    "unsound: front, too many ones",
+    "unsound: front, descending",
+    "unsound: front, unused byte",
+    "unsound: backyard, zero word",
+    "unsound: backyard, too few ones",
+    "unsound: backyard, too many ones",
+    "unsound: backyard, 23 to 28 members",
+    "unsound: backyard, tags descending",
+    "unsound: backyard, crumbs descending",
+    "unsound: backyard, unused tag",
+    "unsound: backyard, unused half",
+    "unsound: backyard, byte 63",
+    "unsound: backyard, choice 0 invalid",
+    "unsound: backyard, choice 1 invalid, e at least 8",
+    "unsound: backyard, choice 1 invalid, past B",
+];
+
+/// The names of one call, gathered.
+#[derive(Default)]
+struct Names {
+    names: Vec<String>,
+}
+
+impl Names {
+    fn add(&mut self, name: &str) {
+        self.names.push(name.to_string());
+    }
+
+    fn add_if(&mut self, condition: bool, name: &str) {
+        if condition {
+            self.add(name);
+        }
+    }
+}
+
+/// What stands behind a front bucket, as far as it is sound.
+struct Behind {
+    same: bool,
+    bucket0: Option<Vec<Member>>,
+    bucket1: Option<Vec<Member>>,
+    first: Bag,
+    second: Bag,
+    n0: usize,
+    n1: usize,
+}
+
+fn behind(image: &[u8], shape: Shape, f: u64) -> Behind {
+    let (home0, home1) = (shape.first_home(f), shape.second_home(f));
+    let bucket0 = read_backyard(image, shape, home0.bucket).ok();
+    let bucket1 = read_backyard(image, shape, home1.bucket).ok();
+    let bag_of = |bucket: &Option<Vec<Member>>, home| match bucket {
+        Some(members) => bag(members, f, home),
+        None => Vec::new(),
+    };
+    Behind {
+        same: home0.bucket == home1.bucket,
+        first: bag_of(&bucket0, home0),
+        second: bag_of(&bucket1, home1),
+        n0: bucket0.as_ref().map_or(0, Vec::len),
+        n1: bucket1.as_ref().map_or(0, Vec::len),
+        bucket0,
+        bucket1,
+    }
+}
+
+impl Behind {
+    fn unsound(&self) -> bool {
+        self.bucket0.is_none() || self.bucket1.is_none()
+    }
+
+    fn some(&self) -> bool {
+        !self.first.is_empty() || !self.second.is_empty()
+    }
+
+    fn holds(&self, g: Fingerprint) -> bool {
+        self.first.contains(&g) || self.second.contains(&g)
+    }
+
+    fn order(&self) -> &'static str {
+        match self.n0.cmp(&self.n1) {
+            std::cmp::Ordering::Less => "n0 < n1",
+            std::cmp::Ordering::Equal => "tie",
+            std::cmp::Ordering::Greater => "n0 > n1",
+        }
+    }
+
+    /// Whether (m, r) of g stands there for some other front bucket.
+    fn equal_of_another(&self, g: Fingerprint) -> bool {
+        let copies = |bucket: &Option<Vec<Member>>| match bucket {
+            Some(members) => {
+                let equal = |x: &&Member| (x.mini, x.tag) == (g.mini, g.tag);
+                members.iter().filter(equal).count()
+            }
+            None => 0,
+        };
+        let own = |bag: &Bag| bag.iter().filter(|&&x| x == g).count();
+        let there = if self.same {
+            copies(&self.bucket0)
+        } else {
+            copies(&self.bucket0) + copies(&self.bucket1)
+        };
+        there > own(&self.first) + own(&self.second)
+    }
+}
+
+fn insert(names: &mut Names, image: &[u8], hash: u64) {
+    let Some(shape) = Shape::of_length(image.len()) else {
+        return names.add("insert: 1");
+    };
+    let g = Fingerprint::of_hash(hash, shape);
+    let Ok(front) = read_front(image, g.front) else {
+        return names.add("insert: 3 in front");
+    };
+    let behind = behind(image, shape, g.front);
+    if front.len() < 28 {
+        names.add("insert: room");
+        names.add_if(front.len() == 27, "insert: room, 28th member");
+        names.add_if(behind.some(), "insert: room, members behind");
+        names.add_if(behind.unsound(), "insert: room, unsound behind");
+        return;
+    }
+    if behind.bucket0.is_none() {
+        return names.add("insert: 3 in b0");
+    }
+    if behind.bucket1.is_none() {
+        return names.add("insert: 3 in b1");
+    }
+    let (n0, n1) = (behind.n0, behind.n1);
+    if n0 == 22 && n1 == 22 {
+        return names.add(if behind.same {
+            "insert: 4, b0 = b1"
+        } else {
+            "insert: 4"
+        });
+    }
+    if behind.same {
+        names.add("insert: b0 = b1");
+    } else if n0 < n1 {
+        names.add("insert: first");
+        names.add_if(n1 == 22, "insert: first, b1 holds 22");
+    } else if n0 == n1 {
+        names.add("insert: tie");
+    } else {
+        names.add("insert: second");
+        names.add_if(n0 == 22, "insert: second, b0 holds 22");
+    }
+    names.add(match g.cmp(&front[27]) {
+        std::cmp::Ordering::Less => "insert: the largest overflows",
+        std::cmp::Ordering::Equal => "insert: equal to the largest",
+        std::cmp::Ordering::Greater => "insert: the new one overflows",
+    });
+}
+
+fn delete(names: &mut Names, image: &[u8], hash: u64) {
+    let Some(shape) = Shape::of_length(image.len()) else {
+        return names.add("delete: 1");
+    };
+    let g = Fingerprint::of_hash(hash, shape);
+    let Ok(front) = read_front(image, g.front) else {
+        return names.add("delete: 3 in front");
+    };
+    let behind = behind(image, shape, g.front);
+    let in_front = front.contains(&g);
+    if !in_front && (front.len() < 28 || g < front[27]) {
+        let why = if front.len() < 28 {
+            "delete: 5, room in front"
+        } else {
+            "delete: 5, below the largest"
+        };
+        names.add(why);
+        names.add_if(behind.holds(g), &format!("{why}, copy behind"));
+        return;
+    }
+    if front.len() < 28 {
+        names.add("delete: front, no refill");
+        names.add_if(behind.some(), "delete: front, no refill, members behind");
+        names.add_if(behind.unsound(), "delete: front, no refill, unsound behind");
+        return;
+    }
+    let way = if in_front {
+        "delete: refill"
+    } else {
+        "delete: behind"
+    };
+    if behind.bucket0.is_none() {
+        return names.add(&format!("{way}, 3 in b0"));
+    }
+    if behind.bucket1.is_none() {
+        return names.add(&format!("{way}, 3 in b1"));
+    }
+    let wanted = if in_front {
+        let Some(&smallest) = behind.first.iter().chain(&behind.second).min() else {
+            return names.add("delete: refill, none");
+        };
+        names.add_if(behind.holds(g), "delete: refill, copies of g behind");
+        names.add_if(
+            smallest < front[27],
+            "delete: refill, smaller than the front's largest",
+        );
+        smallest
+    } else {
+        g
+    };
+    let larger = |bag: &Bag| in_front && !bag.is_empty();
+    match (
+        behind.first.contains(&wanted),
+        behind.second.contains(&wanted),
+    ) {
+        (false, false) => {
+            names.add("delete: 5, none behind");
+            names.add_if(
+                behind.equal_of_another(g),
+                "delete: 5, another front bucket's equal behind",
+            );
+            return;
+        }
+        (true, false) if larger(&behind.second) => {
+            names.add(&format!("{way}, from first, second larger"))
+        }
+        (true, false) => names.add(&format!("{way}, from first alone")),
+        (false, true) if larger(&behind.first) => {
+            names.add(&format!("{way}, from second, first larger"))
+        }
+        (false, true) => names.add(&format!("{way}, from second alone")),
+        (true, true) => names.add(&format!("{way}, both, {}", behind.order())),
+    }
+    names.add_if(behind.same, &format!("{way}, b0 = b1"));
+    names.add_if(
+        behind.equal_of_another(wanted),
+        &format!("{way}, another front bucket's equal beside"),
+    );
+}
+
+fn ask(names: &mut Names, image: &[u8], hash: u64) {
+    let Some(shape) = Shape::of_length(image.len()) else {
+        return names.add("ask: 1");
+    };
+    let g = Fingerprint::of_hash(hash, shape);
+    let Ok(front) = read_front(image, g.front) else {
+        return names.add("ask: 3 in front");
+    };
+    if front.contains(&g) {
+        names.add("ask: front");
+        names.add_if(front[0] < g, "ask: slot above 0");
+        names.add_if(
+            front.len() == 28 && front[27] == g,
+            "ask: front, equal to the largest of 28",
+        );
+        return;
+    }
+    if front.len() < 28 {
+        return names.add("ask: none, room in front");
+    }
+    if g < front[27] {
+        return names.add("ask: none, below the largest");
+    }
+    let behind = behind(image, shape, g.front);
+    if behind.bucket0.is_none() {
+        return names.add("ask: 3 in b0");
+    }
+    if behind.first.contains(&g) {
+        names.add("ask: first");
+        names.add_if(behind.bucket1.is_none(), "ask: first, b1 unsound");
+        names.add_if(behind.same, "ask: first, b0 = b1");
+        return;
+    }
+    if behind.bucket1.is_none() {
+        return names.add("ask: 3 in b1");
+    }
+    if behind.second.contains(&g) {
+        names.add("ask: second");
+        names.add_if(behind.same, "ask: second, b0 = b1");
+        return;
+    }
+    names.add("ask: none, 3 reads");
+}
+
+fn count(names: &mut Names, image: &[u8], hash: u64) {
+    let Some(shape) = Shape::of_length(image.len()) else {
+        return names.add("count: 1");
+    };
+    let g = Fingerprint::of_hash(hash, shape);
+    let Ok(front) = read_front(image, g.front) else {
+        return names.add("count: 3 in front");
+    };
+    if front.len() < 28 {
+        return names.add("count: room in front");
+    }
+    if g < front[27] {
+        return names.add("count: below the largest");
+    }
+    let behind = behind(image, shape, g.front);
+    if behind.bucket0.is_none() {
+        return names.add("count: 3 in b0");
+    }
+    if behind.bucket1.is_none() {
+        return names.add("count: 3 in b1");
+    }
+    if g == front[27] {
+        names.add("count: equal to the largest");
+        names.add_if(
+            behind.holds(g),
+            "count: equal to the largest, copies behind",
+        );
+    } else {
+        names.add("count: above the largest");
+    }
+    let both = behind.first.contains(&g) && behind.second.contains(&g);
+    names.add_if(both, "count: copies in first and second");
+    names.add_if(behind.same, "count: b0 = b1");
+}
+
+fn page(names: &mut Names, image: &[u8], start: u64, length: usize) {
+    let Some(shape) = Shape::of_length(image.len()) else {
+        return names.add("page: 1");
+    };
+    let fronts = shape.fronts();
+    if start > fronts {
+        names.add("page: 6");
+        let unsound = (0..fronts).any(|f| read_front(image, f).is_err());
+        return names.add_if(unsound, "page: 6, unsound image");
+    }
+    if start == fronts {
+        return names.add("page: from F");
+    }
+    let mut written = 0;
+    for f in start..fronts {
+        let Ok(front) = read_front(image, f) else {
+            names.add_if(
+                written == length && f > start,
+                "page: 3, after a full output",
+            );
+            return names.add("page: 3 in front");
+        };
+        let behind = behind(image, shape, f);
+        if front.len() == 28 && behind.unsound() {
+            names.add_if(written + 28 > length, "page: 3, the bucket would not fit");
+            return names.add(if behind.bucket0.is_none() {
+                "page: 3 in b0"
+            } else {
+                "page: 3 in b1"
+            });
+        }
+        let all = members(image, shape, f).expect("sound buckets").len();
+        if written + all > length {
+            if f == start {
+                let later = (f + 1..fronts).any(|f| read_front(image, f).is_err());
+                names.add("page: 7");
+                return names.add_if(later, "page: 7, later bucket unsound");
+            }
+            names.add("page: stops");
+            return names.add_if(
+                written == 0 && f == start + 1,
+                "page: none written, next s + 1",
+            );
+        }
+        names.add_if(all > 28, "page: overflow listed");
+        let both = !behind.first.is_empty() && !behind.second.is_empty();
+        names.add_if(all > 28 && both, "page: overflow in first and second");
+        names.add_if(
+            front.len() < 28 && behind.some(),
+            "page: members behind left out",
+        );
+        names.add_if(
+            all == 0 && written == length && length > 0,
+            "page: empty buckets after a full output",
+        );
+        written += all;
+    }
+    names.add("page: up to F");
+    names.add_if(written < length, "page: room left over");
+}
+
+/// The first unsound bucket by table number, or the backyard buckets with members before
+/// their turn.
+enum Fault {
+    Unsound(u64),
+    Early(Vec<u64>),
+}
+
+fn early(image: &[u8], shape: Shape) -> Vec<(u64, &'static str)> {
+    let mut found = Vec::new();
+    for j in 0..shape.backyards() {
+        for x in read_backyard(image, shape, j).unwrap_or_default() {
+            let f = shape.front_of(j, x.crumb).expect("a valid crumb");
+            let Ok(front) = read_front(image, f) else {
+                continue;
+            };
+            let g = (x.mini, x.tag);
+            if front.len() < 28 {
+                found.push((j, "check: 8, room in front"));
+            } else if g < (front[27].mini, front[27].tag) {
+                found.push((j, "check: 8, below the largest"));
+            }
+        }
+    }
+    found
+}
+
+fn fault(image: &[u8], shape: Shape) -> Option<Fault> {
+    let bad_front = |&f: &u64| read_front(image, f).is_err();
+    let bad_backyard = |&j: &u64| read_backyard(image, shape, j).is_err();
+    if let Some(f) = (0..shape.fronts()).find(bad_front) {
+        return Some(Fault::Unsound(f));
+    }
+    if let Some(j) = (0..shape.backyards()).find(bad_backyard) {
+        return Some(Fault::Unsound(shape.table_number(j)));
+    }
+    let mut buckets: Vec<u64> = early(image, shape).iter().map(|&(j, _)| j).collect();
+    buckets.dedup();
+    (!buckets.is_empty()).then_some(Fault::Early(buckets))
+}
+
+fn check(names: &mut Names, image: &[u8]) {
+    let Some(shape) = Shape::of_length(image.len()) else {
+        return names.add("check: 1");
+    };
+    let early = early(image, shape);
+    match fault(image, shape) {
+        Some(Fault::Unsound(table)) => {
+            names.add(if table < shape.fronts() {
+                "check: 3 in front"
+            } else {
+                "check: 3 in the backyard"
+            });
+            names.add_if(!early.is_empty(), "check: 3 before 8");
+            unsound(names, image, shape, table);
+        }
+        Some(Fault::Early(buckets)) => {
+            let lowest = early.iter().filter(|(j, _)| *j == buckets[0]);
+            for (_, why) in lowest {
+                names.add(why);
+            }
+            names.add_if(buckets.len() > 1, "check: 8, several");
+        }
+        None => {
+            names.add("check: accepted");
+            for j in 0..shape.backyards() {
+                for x in read_backyard(image, shape, j).expect("a sound bucket") {
+                    let f = shape.front_of(j, x.crumb).expect("a valid crumb");
+                    let front = read_front(image, f).expect("a sound bucket");
+                    names.add("check: accepted, overflow");
+                    names.add_if(
+                        (front[27].mini, front[27].tag) == (x.mini, x.tag),
+                        "check: accepted, overflow equal to the largest",
+                    );
+                }
+            }
+        }
+    }
+}
+
+/// Why a bucket is unsound.
+fn unsound(names: &mut Names, image: &[u8], shape: Shape, table: u64) {
+    let at = table as usize * BUCKET;
+    let bytes: Bytes = image[at..at + BUCKET].try_into().expect("64 bytes");
+    let word = u64::from_le_bytes(bytes[..8].try_into().expect("eight bytes"));
+    let front = table < shape.fronts();
+    let kind = if front { "front" } else { "backyard" };
+    let mut add = |why: &str| names.add(&format!("unsound: {kind}, {why}"));
+    if word == 0 {
+        return add("zero word");
+    }
+    if word.count_ones() != 36 {
+        return add(if word.count_ones() < 36 {
+            "too few ones"
+        } else {
+            "too many ones"
+        });
+    }
+    let mut ones = 0;
+    let mut minis = Vec::new();
+    for bit in 0..64 {
+        if word >> bit & 1 == 1 {
+            ones += 1;
+        } else if ones < 36 {
+            minis.push(ones);
+        }
+    }
+    let n = minis.len();
+    if !front && n > 22 {
+        return add("23 to 28 members");
+    }
+    let tag = |slot: usize| bytes[8 + 2 * slot] as u64 + 256 * bytes[9 + 2 * slot] as u64;
+    let crumb = |slot: usize| bytes[52 + slot / 2] as u64 >> (4 * (slot % 2)) & 15;
+    for slot in 1..n {
+        let (before, here) = ((minis[slot - 1], tag(slot - 1)), (minis[slot], tag(slot)));
+        if here < before {
+            return add(if front {
+                "descending"
+            } else {
+                "tags descending"
+            });
+        }
+        if !front && here == before && crumb(slot) < crumb(slot - 1) {
+            return add("crumbs descending");
+        }
+    }
+    if front {
+        return add("unused byte");
+    }
+    if (n..22).any(|slot| tag(slot) != 0) {
+        return add("unused tag");
+    }
+    if (n..22).any(|slot| crumb(slot) != 0) {
+        return add("unused half");
+    }
+    if bytes[63] != 0 {
+        return add("byte 63");
+    }
+    let j = table - shape.fronts();
+    for slot in 0..n {
+        if shape.front_of(j, crumb(slot)).is_none() {
+            return add(if crumb(slot) < 8 {
+                "choice 0 invalid"
+            } else if j / (shape.b / 8 + 1) >= 8 {
+                "choice 1 invalid, e at least 8"
+            } else {
+                "choice 1 invalid, past B"
+            });
+        }
+    }
+}
+
+fn merge(names: &mut Names, sources: [&[u8]; 2], target: &[u8], twice: bool, accepted: bool) {
+    let [first, second] = sources;
+    let wrong = |image: &[u8]| Shape::of_length(image.len()).is_none();
+    if wrong(first) || wrong(second) || wrong(target) {
+        names.add_if(wrong(first), "merge: 1, first");
+        names.add_if(wrong(second), "merge: 1, second");
+        names.add_if(wrong(target), "merge: 1, target");
+        return;
+    }
+    if first.len() != second.len() || first.len() != target.len() {
+        names.add_if(first.len() != second.len(), "merge: 2, second");
+        names.add_if(first.len() != target.len(), "merge: 2, target");
+        return;
+    }
+    let shape = Shape::of_length(first.len()).expect("a good length");
+    let second_fault = fault(second, shape);
+    match fault(first, shape) {
+        Some(Fault::Unsound(_)) => return names.add("merge: 3, first"),
+        Some(Fault::Early(_)) => {
+            names.add("merge: 8, first");
+            let unsound = matches!(second_fault, Some(Fault::Unsound(_)));
+            return names.add_if(unsound, "merge: 8, first, second unsound");
+        }
+        None => {}
+    }
+    match second_fault {
+        Some(Fault::Unsound(_)) => return names.add("merge: 3, second"),
+        Some(Fault::Early(_)) => return names.add("merge: 8, second"),
+        None => {}
+    }
+    let both = |f| {
+        let of = |image| members(image, shape, f).expect("sound buckets").len();
+        (of(first), of(second))
+    };
+    if !accepted {
+        names.add("merge: 4");
+        let empty = (0..shape.fronts()).all(|f| both(f).1 == 0);
+        return names.add_if(empty, "merge: 4, second empty");
+    }
+    names.add("merge: accepted");
+    names.add_if(twice, "merge: accepted, one source twice");
+    names.add_if(
+        matches!(fault(target, shape), Some(Fault::Unsound(_))),
+        "merge: accepted, target unsound before",
+    );
+    for f in 0..shape.fronts() {
+        names.add(match both(f) {
+            (0, 0) => "merge: front of neither",
+            (1..=28, 0) => "merge: front of first alone",
+            (0, 1..=28) => "merge: front of second alone",
+            (_, 0) => "merge: front of first alone, overflow",
+            (0, _) => "merge: front of second alone, overflow",
+            (n, m) if n + m <= 28 => "merge: fronts of both, room",
+            _ => "merge: fronts of both, overflow",
+        });
+        let behind = behind(first, shape, f);
+        names.add_if(
+            behind.same && !behind.first.is_empty(),
+            "merge: choice 0 becomes 1 where b0 = b1",
+        );
+    }
+}
+
+/// The branches that a line takes on these images. `accepted` tells whether it is accepted.
+pub fn of(images: &Images, line: Line, accepted: bool) -> Vec<String> {
+    let mut names = Names::default();
+    let image = |x: usize| -> &[u8] { &images.image[x] };
+    match line {
+        Line::Fresh { x } => names.add(match Shape::of_length(image(x).len()) {
+            Some(_) => "fresh: accepted",
+            None => "fresh: 1",
+        }),
+        Line::Insert { x, hash } => insert(&mut names, image(x), hash),
+        Line::Delete { x, hash } => delete(&mut names, image(x), hash),
+        Line::Ask { x, hash } => ask(&mut names, image(x), hash),
+        Line::Count { x, hash } => count(&mut names, image(x), hash),
+        Line::Page { x, start, length } => page(&mut names, image(x), start, length),
+        Line::Check { x } => check(&mut names, image(x)),
+        Line::Merge { x, y, z } => {
+            let sources = [image(x), image(y)];
+            merge(&mut names, sources, image(z), x == y, accepted)
+        }
+        Line::New { .. } | Line::Poke { .. } | Line::Copy { .. } => {}
+    }
+    names.names
+}

@@ -1,0 +1,388 @@
+//! The eight calls of document 01 on byte slices.
+
+use crate::bucket::{self, Bytes, Member};
+use crate::fingerprint::Fingerprint;
+use crate::map::Home;
+use crate::shape::{Shape, BACKYARD_SLOTS, BUCKET, FRONT_SLOTS};
+
+/// A refusal: its number, and the table number that comes with 3 and 8.
+#[derive(Clone, Copy, PartialEq, Eq, Debug)]
+pub struct Refusal {
+    pub number: u8,
+    pub table: Option<u64>,
+}
+
+/// Where an ask ended, with the lowest slot of the fingerprint there.
+#[derive(Clone, Copy, PartialEq, Eq, Debug)]
+pub enum Place {
+    None,
+    Front(u64),
+    First(u64),
+    Second(u64),
+}
+
+#[derive(Clone, Copy, PartialEq, Eq, Debug)]
+pub struct Asked {
+    pub reads: u64,
+    pub place: Place,
+}
+
+#[derive(Clone, Copy, PartialEq, Eq, Debug)]
+pub struct Counted {
+    pub copies: u64,
+    pub reads: u64,
+}
+
+#[derive(Clone, Copy, PartialEq, Eq, Debug)]
+pub struct Paged {
+    pub how_many: u64,
+    pub next: u64,
+}
+
+/// A bag of fingerprints of one front bucket, ascending.
+pub type Bag = Vec<Fingerprint>;
+
+fn refused<T>(number: u8) -> Result<T, Refusal> {
+    Err(Refusal {
+        number,
+        table: None,
+    })
+}
+
+fn refused_at<T>(number: u8, table: u64) -> Result<T, Refusal> {
+    Err(Refusal {
+        number,
+        table: Some(table),
+    })
+}
+
+fn sized(image: &[u8]) -> Result<Shape, Refusal> {
+    match Shape::of_length(image.len()) {
+        Some(shape) => Ok(shape),
+        None => refused(1),
+    }
+}
+
+fn bytes_at(image: &[u8], table: u64) -> &Bytes {
+    let at = table as usize * BUCKET;
+    image[at..at + BUCKET].try_into().unwrap()
+}
+
+fn write_at(image: &mut [u8], table: u64, bytes: Bytes) {
+    let at = table as usize * BUCKET;
+    image[at..at + BUCKET].copy_from_slice(&bytes);
+}
+
+/// Reads Front(f).
+pub fn read_front(image: &[u8], f: u64) -> Result<Bag, Refusal> {
+    let Some(members) = bucket::decode_front(bytes_at(image, f)) else {
+        return refused_at(3, f);
+    };
+    Ok(fingerprints(f, &members))
+}
+
+/// Reads backyard bucket j: the members of all the bags that share it.
+pub fn read_backyard(image: &[u8], shape: Shape, j: u64) -> Result<Vec<Member>, Refusal> {
+    let table = shape.table_number(j);
+    match bucket::decode_backyard(bytes_at(image, table), j, shape) {
+        Some(members) => Ok(members),
+        None => refused_at(3, table),
+    }
+}
+
+fn write_front(image: &mut [u8], f: u64, front: &[Fingerprint]) {
+    let members: Vec<Member> = front.iter().map(|g| member(*g, 0)).collect();
+    write_at(image, f, bucket::encode_front(&members));
+}
+
+fn write_backyard(image: &mut [u8], shape: Shape, j: u64, members: &[Member]) {
+    let table = shape.table_number(j);
+    write_at(image, table, bucket::encode_backyard(members));
+}
+
+fn member(g: Fingerprint, crumb: u64) -> Member {
+    Member {
+        mini: g.mini,
+        tag: g.tag,
+        crumb,
+    }
+}
+
+fn fingerprints(f: u64, members: &[Member]) -> Bag {
+    let fingerprint = |x: &Member| Fingerprint {
+        front: f,
+        mini: x.mini,
+        tag: x.tag,
+    };
+    members.iter().map(fingerprint).collect()
+}
+
+/// The bag of f in its home: the members with f's crumb.
+pub fn bag(members: &[Member], f: u64, home: Home) -> Bag {
+    let own = members.iter().filter(|x| x.crumb == home.crumb);
+    fingerprints(f, &own.copied().collect::<Vec<_>>())
+}
+
+fn copies(bag: &[Fingerprint], g: Fingerprint) -> u64 {
+    bag.iter().filter(|&&x| x == g).count() as u64
+}
+
+fn lowest_slot(bag: &[Member], x: Member) -> Option<u64> {
+    bag.iter().position(|&y| y == x).map(|slot| slot as u64)
+}
+
+/// Adds g to a bag. The bucket that holds it has room.
+fn add_behind(image: &mut [u8], shape: Shape, home: Home, g: Fingerprint) -> Result<(), Refusal> {
+    let mut members = read_backyard(image, shape, home.bucket)?;
+    members.push(member(g, home.crumb));
+    members.sort();
+    write_backyard(image, shape, home.bucket, &members);
+    Ok(())
+}
+
+/// Takes one copy of g out of a bag that has it.
+fn take_behind(image: &mut [u8], shape: Shape, home: Home, g: Fingerprint) -> Result<(), Refusal> {
+    let mut members = read_backyard(image, shape, home.bucket)?;
+    let slot = lowest_slot(&members, member(g, home.crumb)).unwrap();
+    members.remove(slot as usize);
+    write_backyard(image, shape, home.bucket, &members);
+    Ok(())
+}
+
+/// Every bucket empty.
+pub fn fresh(image: &mut [u8]) -> Result<(), Refusal> {
+    let shape = sized(image)?;
+    for f in 0..shape.fronts() {
+        write_front(image, f, &[]);
+    }
+    for j in 0..shape.backyards() {
+        write_backyard(image, shape, j, &[]);
+    }
+    Ok(())
+}
+
+/// The answer is 0, or 1 + the backyard bucket that took the overflow.
+pub fn insert(image: &mut [u8], hash: u64) -> Result<u64, Refusal> {
+    let shape = sized(image)?;
+    insert_fingerprint(image, shape, Fingerprint::of_hash(hash, shape))
+}
+
+fn insert_fingerprint(image: &mut [u8], shape: Shape, g: Fingerprint) -> Result<u64, Refusal> {
+    let f = g.front;
+    let mut front = read_front(image, f)?;
+    let was_full = front.len() == FRONT_SLOTS;
+    front.push(g);
+    front.sort();
+    if !was_full {
+        write_front(image, f, &front);
+        return Ok(0);
+    }
+    let (first, second) = (shape.first_home(f), shape.second_home(f));
+    let n0 = read_backyard(image, shape, first.bucket)?.len();
+    let n1 = read_backyard(image, shape, second.bucket)?.len();
+    if n0 == BACKYARD_SLOTS && n1 == BACKYARD_SLOTS {
+        return refused(4);
+    }
+    let largest = front.pop().unwrap();
+    let home = if n0 < n1 { first } else { second };
+    add_behind(image, shape, home, largest)?;
+    write_front(image, f, &front);
+    Ok(1 + home.bucket)
+}
+
+/// The answer is 0, or 1 + the backyard bucket that a member left.
+pub fn delete(image: &mut [u8], hash: u64) -> Result<u64, Refusal> {
+    let shape = sized(image)?;
+    let g = Fingerprint::of_hash(hash, shape);
+    let f = g.front;
+    let mut front = read_front(image, f)?;
+    let was_full = front.len() == FRONT_SLOTS;
+    let in_front = front.contains(&g);
+    let behind = was_full && g > front[FRONT_SLOTS - 1];
+    if !in_front && !behind {
+        return refused(5);
+    }
+    if in_front {
+        let slot = front.iter().position(|&x| x == g).unwrap();
+        front.remove(slot);
+    }
+    if !was_full {
+        write_front(image, f, &front);
+        return Ok(0);
+    }
+    let (home0, home1) = (shape.first_home(f), shape.second_home(f));
+    let bucket0 = read_backyard(image, shape, home0.bucket)?;
+    let bucket1 = read_backyard(image, shape, home1.bucket)?;
+    let (n0, n1) = (bucket0.len(), bucket1.len());
+    let (first, second) = (bag(&bucket0, f, home0), bag(&bucket1, f, home1));
+
+    // The value that leaves the backyard: the smallest to refill the front, or g itself.
+    let wanted = if in_front {
+        first.iter().chain(&second).min().copied()
+    } else {
+        Some(g)
+    };
+    let Some(wanted) = wanted else {
+        write_front(image, f, &front);
+        return Ok(0);
+    };
+    let home = match (first.contains(&wanted), second.contains(&wanted)) {
+        (false, false) => return refused(5),
+        (true, false) => home0,
+        (false, true) => home1,
+        (true, true) if n0 > n1 => home0,
+        (true, true) => home1,
+    };
+    take_behind(image, shape, home, wanted)?;
+    if in_front {
+        front.push(wanted);
+        front.sort();
+        write_front(image, f, &front);
+    }
+    Ok(1 + home.bucket)
+}
+
+pub fn ask(image: &[u8], hash: u64) -> Result<Asked, Refusal> {
+    let shape = sized(image)?;
+    let g = Fingerprint::of_hash(hash, shape);
+    let f = g.front;
+    let front = read_front(image, f)?;
+    if let Some(slot) = front.iter().position(|&x| x == g) {
+        return Ok(Asked {
+            reads: 1,
+            place: Place::Front(slot as u64),
+        });
+    }
+    if front.len() < FRONT_SLOTS || g < front[FRONT_SLOTS - 1] {
+        return Ok(Asked {
+            reads: 1,
+            place: Place::None,
+        });
+    }
+    let home = shape.first_home(f);
+    let members = read_backyard(image, shape, home.bucket)?;
+    if let Some(slot) = lowest_slot(&members, member(g, home.crumb)) {
+        return Ok(Asked {
+            reads: 2,
+            place: Place::First(slot),
+        });
+    }
+    let home = shape.second_home(f);
+    let members = read_backyard(image, shape, home.bucket)?;
+    let place = match lowest_slot(&members, member(g, home.crumb)) {
+        Some(slot) => Place::Second(slot),
+        None => Place::None,
+    };
+    Ok(Asked { reads: 3, place })
+}
+
+pub fn count(image: &[u8], hash: u64) -> Result<Counted, Refusal> {
+    let shape = sized(image)?;
+    let g = Fingerprint::of_hash(hash, shape);
+    let f = g.front;
+    let front = read_front(image, f)?;
+    if front.len() < FRONT_SLOTS || g < front[FRONT_SLOTS - 1] {
+        return Ok(Counted {
+            copies: copies(&front, g),
+            reads: 1,
+        });
+    }
+    let (first, second) = read_behind(image, shape, f)?;
+    Ok(Counted {
+        copies: copies(&front, g) + copies(&first, g) + copies(&second, g),
+        reads: 3,
+    })
+}
+
+/// First(f) and Second(f), b0 read before b1.
+fn read_behind(image: &[u8], shape: Shape, f: u64) -> Result<(Bag, Bag), Refusal> {
+    let (home0, home1) = (shape.first_home(f), shape.second_home(f));
+    let bucket0 = read_backyard(image, shape, home0.bucket)?;
+    let bucket1 = read_backyard(image, shape, home1.bucket)?;
+    Ok((bag(&bucket0, f, home0), bag(&bucket1, f, home1)))
+}
+
+/// The members of front bucket f, ascending: those of Front, and where it holds 28 those of
+/// First and Second too.
+pub fn members(image: &[u8], shape: Shape, f: u64) -> Result<Bag, Refusal> {
+    let mut all = read_front(image, f)?;
+    if all.len() == FRONT_SLOTS {
+        let (first, second) = read_behind(image, shape, f)?;
+        all.extend(first);
+        all.extend(second);
+        all.sort();
+    }
+    Ok(all)
+}
+
+/// Lists whole front buckets from `start` on as far as they fit into the output.
+pub fn page(image: &[u8], start: u64, out: &mut [u64]) -> Result<Paged, Refusal> {
+    let shape = sized(image)?;
+    if start > shape.fronts() {
+        return refused(6);
+    }
+    let mut listed: Vec<u64> = Vec::new();
+    let mut next = start;
+    while next < shape.fronts() {
+        let bucket = members(image, shape, next)?;
+        if listed.len() + bucket.len() > out.len() {
+            break;
+        }
+        listed.extend(bucket.iter().map(|g| g.number()));
+        next += 1;
+    }
+    if next == start && start < shape.fronts() {
+        return refused(7);
+    }
+    out[..listed.len()].copy_from_slice(&listed);
+    Ok(Paged {
+        how_many: listed.len() as u64,
+        next,
+    })
+}
+
+pub fn check(image: &[u8]) -> Result<(), Refusal> {
+    let shape = sized(image)?;
+    let mut fronts = Vec::new();
+    for f in 0..shape.fronts() {
+        fronts.push(read_front(image, f)?);
+    }
+    let mut backyards = Vec::new();
+    for j in 0..shape.backyards() {
+        backyards.push(read_backyard(image, shape, j)?);
+    }
+    for (j, bucket) in backyards.iter().enumerate() {
+        for x in bucket {
+            let f = shape.front_of(j as u64, x.crumb).unwrap();
+            let g = fingerprints(f, &[*x])[0];
+            let front = &fronts[f as usize];
+            if front.len() < FRONT_SLOTS || front.iter().any(|&y| y > g) {
+                return refused_at(8, shape.table_number(j as u64));
+            }
+        }
+    }
+    Ok(())
+}
+
+pub fn merge(first: &[u8], second: &[u8], target: &mut [u8]) -> Result<(), Refusal> {
+    let shape = sized(first)?;
+    sized(second)?;
+    sized(target)?;
+    if first.len() != second.len() || first.len() != target.len() {
+        return refused(2);
+    }
+    check(first)?;
+    check(second)?;
+    fresh(target)?;
+    for f in 0..shape.fronts() {
+        for source in [first, second] {
+            for g in members(source, shape, f)? {
+                if let Err(full) = insert_fingerprint(target, shape, g) {
+                    fresh(target)?;
+                    return Err(full);
+                }
+            }
+        }
+    }
+    Ok(())
+}

@@ -1,0 +1,671 @@
+//! The calls that are stored for the program `trial`: document 01's cases one by one, then
+//! short random histories. Always the same lines.
+
+use crate::bucket::{encode_backyard, encode_front, Member};
+use crate::fingerprint::Fingerprint;
+use crate::histories::{self, KINDS};
+use crate::prepare::{hash_of, Player};
+use crate::random::Random;
+use crate::shape::Shape;
+use crate::stored::{Images, Line};
+
+/// No image that is stored is longer; B is at most 21.
+pub const LONGEST_IMAGE: usize = 12800;
+/// No output that is stored has more entries.
+pub const LONGEST_OUTPUT: usize = 512;
+
+fn g(front: u64, mini: u64, tag: u64) -> Fingerprint {
+    Fingerprint { front, mini, tag }
+}
+
+fn member(mini: u64, tag: u64, crumb: u64) -> Member {
+    Member { mini, tag, crumb }
+}
+
+/// 28 front members, tags 100, 110, .. 370 in mini-bucket 5.
+fn full_front() -> Vec<Member> {
+    (0..28).map(|i| member(5, 100 + 10 * i, 0)).collect()
+}
+
+/// So many backyard members with one crumb, tags from 1,000 up in mini-bucket 5.
+fn overflow(how_many: u64, crumb: u64) -> Vec<Member> {
+    let one = |i| member(5, 1000 + i, crumb);
+    (0..how_many).map(one).collect()
+}
+
+fn both(mut some: Vec<Member>, more: Vec<Member>) -> Vec<Member> {
+    some.extend(more);
+    some
+}
+
+/// The examples in the table of numbers.
+fn numbers(p: &mut Player) {
+    p.play(Line::New { x: 0, length: 1023 });
+    p.play(Line::Fresh { x: 0 });
+    p.play(Line::New { x: 0, length: 1024 });
+    p.play(Line::New { x: 1, length: 1600 });
+    p.play(Line::New { x: 2, length: 1024 });
+    p.merge(0, 1, 2);
+    p.merge(0, 2, 1);
+    for hash in [0, u64::MAX, 0x8000000040000007] {
+        p.play(Line::Ask { x: 0, hash });
+        p.play(Line::Count { x: 0, hash });
+        p.play(Line::Insert { x: 0, hash });
+        p.play(Line::Delete { x: 0, hash });
+    }
+    p.check(0);
+    p.page(0, 0, 4);
+    p.page(0, 8, 4);
+    p.page(0, 9, 4);
+    p.play(Line::Fresh { x: 0 });
+    for hash in [0, u64::MAX, 0x123456789ABCDEF0] {
+        p.play(Line::Delete { x: 0, hash });
+    }
+    p.page(0, 9, 0);
+    p.page(0, 8, 0);
+    p.insert(0, g(2, 3, 4));
+    p.page(0, 2, 0);
+    p.page(0, 1, 0);
+    p.page(0, 0, 1);
+    // Backyard bucket 0 of a fresh image with B = 1 gets one member, crumb 1.
+    p.play(Line::Fresh { x: 0 });
+    p.put_backyard(0, 0, vec![member(0, 0, 1)]);
+    p.check(0);
+    p.play(Line::New { x: 1, length: 1024 });
+    p.play(Line::New { x: 2, length: 1024 });
+    p.merge(0, 1, 2);
+}
+
+/// Wrong lengths for every call.
+fn lengths(p: &mut Player) {
+    p.fresh(0, 1);
+    p.fresh(2, 1);
+    for length in [0, 1, 447, 448, 449, 576, 1023, 1025, 1599, 1601, 11967] {
+        p.play(Line::New { x: 1, length });
+        p.play(Line::Fresh { x: 1 });
+        p.check(1);
+        for hash in [0, u64::MAX] {
+            p.play(Line::Insert { x: 1, hash });
+            p.play(Line::Delete { x: 1, hash });
+            p.play(Line::Ask { x: 1, hash });
+            p.play(Line::Count { x: 1, hash });
+        }
+        p.page(1, 0, 3);
+        p.page(1, 99, 3);
+        for (x, y, z) in [(0, 0, 1), (0, 1, 2), (1, 0, 2), (1, 1, 2)] {
+            p.merge(x, y, z);
+        }
+    }
+    // 1 before 2: the target's length is wrong, the sources differ.
+    p.play(Line::New { x: 1, length: 1600 });
+    p.play(Line::New { x: 2, length: 1599 });
+    p.merge(0, 1, 2);
+    p.merge(1, 0, 2);
+    // 2 before 3: the differing source is unsound.
+    p.play(Line::New { x: 2, length: 1600 });
+    p.merge(0, 1, 2);
+    p.merge(1, 2, 0);
+    p.merge(1, 0, 2);
+}
+
+/// The numbers of front and backyard buckets at both ends, and copies up to full.
+fn capacity(p: &mut Player) {
+    p.fresh(0, 3);
+    for n in 1..=73 {
+        p.insert(0, g(13, 7, 777));
+        if [27, 28, 29, 30, 71, 72, 73].contains(&n) {
+            p.look(0, g(13, 7, 777));
+            p.look(0, g(13, 7, 776));
+            p.look(0, g(13, 7, 778));
+            p.check(0);
+            for length in [n - 1, n, n + 1] {
+                p.page(0, 13, length);
+            }
+        }
+    }
+    p.insert(0, g(13, 0, 0));
+    p.insert(0, g(13, 35, 65535));
+    for _ in 0..73 {
+        p.delete(0, g(13, 7, 777));
+    }
+    p.check(0);
+    // b0 = b1 = 1.
+    for n in 1..=51 {
+        p.insert(0, g(9, n % 36, n));
+        if n > 27 && n % 4 == 0 || n > 48 {
+            p.look(0, g(9, n % 36, n));
+            p.check(0);
+        }
+    }
+    p.page(0, 9, 49);
+    p.page(0, 9, 50);
+    for n in (1..=51).rev() {
+        p.delete(0, g(9, n % 36, n));
+    }
+    for hash in [0, u64::MAX, 0x8000000040000007] {
+        p.play(Line::Insert { x: 0, hash });
+        p.play(Line::Ask { x: 0, hash });
+    }
+    p.page(0, 0, 10);
+}
+
+/// The marked places of larger images, each filled until it is full.
+fn larger(p: &mut Player) {
+    for (b, f) in [(8, 63), (20, 159), (20, 100), (2, 15), (1, 0), (1, 7)] {
+        p.fresh(0, b);
+        let shape = Shape { b };
+        // The two backyard buckets start uneven.
+        let home = shape.first_home(f);
+        p.put_front(0, f, full_front());
+        p.put_backyard(0, home.bucket, overflow(20, home.crumb));
+        p.check(0);
+        for n in 0..27 {
+            if p.insert(0, g(f, 5, 90 + 12 * n)) >> 56 == 4 {
+                break;
+            }
+        }
+        p.check(0);
+        p.page(0, f, 71);
+        p.page(0, f, 72);
+        p.page(0, f, 73);
+        p.look(0, g(f, 5, 1000));
+        p.look(0, g(f, 5, 2000));
+        p.look(0, g(f, 5, 90));
+    }
+}
+
+/// Every rule of an insert into a full front bucket.
+fn inserts(p: &mut Player) {
+    let f = 13;
+    for (n0, n1) in [(0, 0), (3, 4), (4, 3), (5, 22), (22, 5), (21, 21), (22, 22)] {
+        for new in [50, 250, 370, 371, 65535] {
+            p.fresh(0, 3);
+            p.put_front(0, f, full_front());
+            p.put_backyard(0, 1, overflow(n0, 5));
+            p.put_backyard(0, 5, overflow(n1, 9));
+            p.insert(0, g(f, 5, new));
+        }
+        p.check(0);
+    }
+    // Other members of the same backyard buckets count too.
+    p.put_backyard(0, 1, overflow(6, 4));
+    p.put_backyard(0, 5, overflow(5, 9));
+    p.insert(0, g(f, 5, 380));
+    p.insert(0, g(f, 5, 390));
+    // A front bucket below 28 takes the new one, whatever stands behind.
+    p.put_front(0, f, full_front()[..27].to_vec());
+    p.insert(0, g(f, 30, 1));
+    p.insert(0, g(f, 30, 2));
+    // An unsound bucket behind matters only where it is read; b0 is read first.
+    p.put_front(0, f, full_front()[..26].to_vec());
+    p.put_byte(0, 24 + 5, 63, 1);
+    p.insert(0, g(f, 1, 1));
+    p.insert(0, g(f, 1, 2));
+    p.insert(0, g(f, 1, 3));
+    p.put_byte(0, 24 + 1, 63, 1);
+    p.insert(0, g(f, 1, 3));
+    p.put_byte(0, f, 63, 0xFF);
+    p.put_byte(0, f, 0, 0xFF);
+    p.insert(0, g(f, 1, 3));
+}
+
+/// Every rule of a delete from a full front bucket.
+fn deletes(p: &mut Player) {
+    let f = 13;
+    let value = |tag, crumb| member(5, tag, crumb);
+    // n0 and n1 are brought about by members of other front buckets (12 in b0, 9 .. in b1).
+    let others = |n, crumb| overflow(n, crumb);
+    let b0_cases = [vec![], vec![400], vec![400, 410], vec![410]];
+    for tags0 in &b0_cases {
+        for tags1 in &b0_cases {
+            for (n0, n1) in [(4, 4), (5, 3), (3, 5)] {
+                if n0 != n1 && (tags0.is_empty() || tags1.is_empty()) {
+                    continue;
+                }
+                let bag0: Vec<Member> = tags0.iter().map(|&t| value(t, 5)).collect();
+                let bag1: Vec<Member> = tags1.iter().map(|&t| value(t, 9)).collect();
+                p.fresh(0, 3);
+                p.put_front(0, f, full_front());
+                let (more0, more1) = (n0 - bag0.len() as u64, n1 - bag1.len() as u64);
+                p.put_backyard(0, 1, both(bag0, others(more0, 4)));
+                p.put_backyard(0, 5, both(bag1, others(more1, 8)));
+                p.play(Line::Copy { x: 0, y: 1 });
+                p.delete(0, g(f, 5, 200));
+                p.delete(1, g(f, 5, 400));
+                p.delete(1, g(f, 5, 400));
+                p.delete(1, g(f, 5, 405));
+                p.delete(1, g(f, 5, 1000));
+                p.delete(1, g(f, 5, 205));
+            }
+        }
+    }
+    // b0 = b1: a tie takes choice 1.
+    p.fresh(0, 3);
+    p.put_front(0, 9, full_front());
+    p.put_backyard(0, 1, vec![value(400, 1), value(400, 9), value(410, 1)]);
+    p.check(0);
+    for tag in [400, 370, 410, 410, 100] {
+        p.look(0, g(9, 5, tag));
+        p.delete(0, g(9, 5, tag));
+    }
+    // Copies in front and behind: the front copy goes, a copy behind refills.
+    p.fresh(0, 3);
+    p.put_front(0, f, vec![member(5, 400, 0); 28]);
+    p.put_backyard(0, 1, vec![value(400, 2), value(400, 5), value(400, 7)]);
+    p.put_backyard(0, 5, vec![value(400, 9)]);
+    for _ in 0..4 {
+        p.look(0, g(f, 5, 400));
+        p.delete(0, g(f, 5, 400));
+    }
+    // Another front bucket's equal is not taken.
+    p.fresh(0, 3);
+    p.put_front(0, f, full_front());
+    p.put_backyard(0, 1, vec![value(400, 2), value(400, 5), value(400, 6)]);
+    p.delete(0, g(f, 5, 400));
+    p.delete(0, g(f, 5, 400));
+    p.look(0, g(f, 5, 400));
+    // Before its turn: a refill smaller than the front's largest, copies out of reach.
+    p.put_backyard(0, 1, vec![value(50, 5), value(205, 5), value(400, 5)]);
+    p.check(0);
+    p.look(0, g(f, 5, 205));
+    p.delete(0, g(f, 5, 205));
+    p.delete(0, g(f, 5, 300));
+    p.delete(0, g(f, 5, 300));
+    p.delete(0, g(f, 5, 310));
+    p.put_front(0, f, full_front()[..20].to_vec());
+    p.put_backyard(0, 1, vec![value(400, 5)]);
+    p.look(0, g(f, 5, 400));
+    p.delete(0, g(f, 5, 400));
+    p.delete(0, g(f, 5, 110));
+    p.page(0, f, 20);
+    // Unsound behind.
+    for (table, front) in [(24 + 1, 28), (24 + 5, 28), (24 + 1, 20), (13, 28)] {
+        p.fresh(0, 3);
+        p.put_front(0, f, full_front()[..front].to_vec());
+        p.put_byte(0, table, 63, 1);
+        p.delete(0, g(f, 5, 150));
+        p.delete(0, g(f, 5, 155));
+        p.delete(0, g(f, 5, 1000));
+    }
+}
+
+/// The five endings of an ask, and count beside it.
+fn asks(p: &mut Player) {
+    let f = 13;
+    p.fresh(0, 3);
+    p.put_front(0, f, full_front());
+    p.put_backyard(
+        0,
+        1,
+        vec![member(5, 400, 4), member(5, 400, 5), member(5, 400, 5)],
+    );
+    p.put_backyard(
+        0,
+        5,
+        vec![member(5, 370, 9), member(5, 400, 9), member(6, 0, 9)],
+    );
+    p.check(0);
+    for tag in [99, 100, 105, 230, 370, 371, 400, 401] {
+        p.look(0, g(f, 5, tag));
+    }
+    p.look(0, g(f, 6, 0));
+    p.look(0, g(f, 4, 230));
+    p.look(0, g(f, 0, 0));
+    p.look(0, g(f, 35, 65535));
+    p.look(0, g(12, 5, 400));
+    for table in [24 + 5, 24 + 1, 13] {
+        p.put_byte(0, table, 8, 0xEE);
+        p.put_byte(0, table, 63, 0x80);
+        for tag in [100, 105, 370, 400, 401] {
+            p.look(0, g(f, 5, tag));
+        }
+    }
+}
+
+fn pages(p: &mut Player) {
+    p.fresh(0, 3);
+    for (f, n) in [(0, 2), (3, 28), (4, 1), (22, 3)] {
+        p.put_front(0, f, full_front()[..n].to_vec());
+    }
+    p.put_front(0, 13, full_front());
+    p.put_front(0, 14, full_front());
+    // Front, First and Second are listed together in order.
+    p.put_backyard(
+        0,
+        1,
+        both(overflow(3, 5), vec![member(4, 0, 5), member(6, 9, 6)]),
+    );
+    p.put_backyard(0, 5, vec![member(5, 1001, 9), member(7, 0, 9)]);
+    p.put_backyard(0, 6, vec![member(5, 1001, 9)]);
+    for start in [0, 1, 3, 4, 5, 12, 13, 14, 15, 22, 23, 24, 25] {
+        for length in [0, 1, 2, 28, 31, 34, 64, 200] {
+            p.page(0, start, length);
+        }
+    }
+    p.page(0, u64::MAX, 5);
+    p.page(0, 1 << 32, 5);
+    p.play(Line::Copy { x: 0, y: 1 });
+    // An unsound b1 of front bucket 13, then also front bucket 14: 29 comes first.
+    p.put_byte(0, 29, 63, 4);
+    for table in [0, 14, 25, 5, 3] {
+        if table > 0 {
+            p.put_byte(0, table, 7, 0xF0);
+        }
+        for (start, length) in [(0, 30), (0, 31), (0, 2), (5, 10), (5, 0), (13, 5), (13, 99)] {
+            p.page(0, start, length);
+        }
+        for (start, length) in [(14, 99), (3, 2), (3, 28), (4, 1), (24, 0), (25, 0)] {
+            p.page(0, start, length);
+        }
+    }
+}
+
+/// Every way in which a bucket is unsound, seen by a check and by an ask.
+fn unsound_buckets(p: &mut Player) {
+    let f = 13;
+    p.fresh(1, 3);
+    p.put_front(1, f, full_front());
+    p.put_front(1, 14, full_front()[..9].to_vec());
+    let equals = vec![member(5, 400, 4), member(5, 400, 5), member(5, 401, 5)];
+    p.put_front(1, 12, full_front());
+    p.put_backyard(1, 1, equals);
+    p.check(1);
+    let edits: &[(u64, usize, u8)] = &[
+        (14, 8, 0xFF),  // tags descend
+        (14, 26, 1),    // the first unused tag
+        (14, 63, 1),    // the last unused tag
+        (14, 4, 0x3F),  // too many ones
+        (14, 4, 0x0F),  // too few ones
+        (14, 7, 0x80),  // a one too high
+        (13, 0, 0xFF),  // more ones in a full bucket
+        (25, 8, 0xFF),  // tags descend
+        (25, 52, 0x45), // crumbs descend
+        (25, 52, 0x5C), // another choice, past B or not
+        (25, 52, 0x5F), // choice 1, past B
+        (25, 14, 1),    // the first unused tag
+        (25, 51, 1),    // the last unused tag
+        (25, 53, 0x15), // the half beside the last crumb
+        (25, 53, 0x50), // a crumb that is 0
+        (25, 54, 1),    // a low half
+        (25, 62, 0x10), // the last half
+        (25, 63, 1),    // byte 63
+        (25, 63, 0x80), // byte 63
+        (25, 4, 0xFF),  // too many ones
+        (25, 4, 0x00),  // too few ones
+        (33, 63, 1),    // the last byte of the image
+        (32, 8, 1),     // an idle bucket
+    ];
+    for &(table, at, value) in edits {
+        p.play(Line::Copy { x: 1, y: 0 });
+        p.put_byte(0, table, at, value);
+        p.check(0);
+        p.look(0, g(f, 5, 400));
+        p.look(0, g(14, 5, 100));
+    }
+    for table in [0, 12, 13, 23, 24, 25, 33] {
+        p.play(Line::Copy { x: 1, y: 0 });
+        p.put(0, table, [0; 64]);
+        p.check(0);
+        p.look(0, g(f, 5, 400));
+    }
+    // A sound bucket of 22, then its word with 23 and 28 members, all else as it was.
+    let mut many: Vec<Member> = (0..28).map(|i: u64| member(5 + i % 3, 400, 5)).collect();
+    many.sort();
+    for n in [22, 23, 28] {
+        p.play(Line::Copy { x: 1, y: 0 });
+        let mut bytes = encode_backyard(&many[..22]);
+        bytes[..8].copy_from_slice(&encode_front(&many[..n])[..8]);
+        p.put(0, 25, bytes);
+        p.check(0);
+        p.look(0, g(f, 5, 400));
+        p.look(0, g(f, 6, 400));
+        p.insert(0, g(f, 6, 400));
+    }
+    // Valid and invalid crumbs in every backyard bucket.
+    for b in [1, 2, 3, 8] {
+        for j in 0..b + 7 {
+            for crumb in [0, 3, 7, 8, 10, 15] {
+                p.fresh(0, b);
+                p.put_backyard(0, j, vec![member(35, 65535, crumb)]);
+                p.check(0);
+            }
+        }
+    }
+}
+
+/// Members before their turn, and the order of check's numbers.
+fn early(p: &mut Player) {
+    p.fresh(0, 3);
+    p.put_front(0, 13, full_front());
+    for (tag, n) in [(370, 28), (369, 28), (65535, 27), (371, 28)] {
+        p.put_front(0, 13, full_front()[..n].to_vec());
+        p.put_backyard(0, 1, vec![]);
+        p.put_backyard(0, 5, vec![member(5, tag, 9)]);
+        p.check(0);
+        p.put_backyard(0, 5, vec![]);
+        p.put_backyard(0, 1, vec![member(5, tag, 5)]);
+        p.check(0);
+        p.look(0, g(13, 5, tag));
+        p.page(0, 13, 60);
+    }
+    // The lowest of several, then an unsound bucket before all.
+    p.put_front(0, 13, full_front()[..27].to_vec());
+    p.put_backyard(0, 5, vec![member(5, 1, 9)]);
+    p.put_backyard(0, 6, vec![member(5, 1, 9)]);
+    p.check(0);
+    p.put_backyard(0, 1, vec![]);
+    p.check(0);
+    p.put_byte(0, 33, 63, 1);
+    p.check(0);
+}
+
+fn merges(p: &mut Player) {
+    // Neither, one, the other, both; room and overflow.
+    p.fresh(0, 3);
+    p.fresh(1, 3);
+    p.play(Line::New { x: 2, length: 2176 });
+    let some = |n| full_front()[..n].to_vec();
+    for (f, n, m) in [
+        (0, 3, 0),
+        (1, 0, 3),
+        (2, 14, 14),
+        (3, 20, 20),
+        (10, 28, 0),
+        (11, 0, 28),
+    ] {
+        p.put_front(0, f, some(n));
+        p.put_front(1, f, some(m));
+    }
+    p.put_front(0, 13, some(28));
+    p.put_backyard(0, 1, overflow(4, 5));
+    p.put_backyard(0, 5, overflow(9, 9));
+    p.put_front(1, 14, some(28));
+    p.put_backyard(1, 1, overflow(7, 6));
+    // b0 = b1 with choice 0, as another writer may have left it.
+    p.put_front(0, 9, some(28));
+    p.put_backyard(0, 1, both(overflow(4, 5), overflow(3, 1)));
+    p.check(0);
+    p.check(1);
+    for (x, y) in [(0, 1), (1, 0), (0, 0), (1, 1)] {
+        p.merge(x, y, 2);
+        p.check(2);
+        p.page(2, 0, 300);
+        p.look(2, g(13, 5, 1003));
+        p.look(2, g(9, 5, 1002));
+    }
+    // Go on with the merged image.
+    for tag in [1000, 1001, 100, 105] {
+        p.delete(2, g(13, 5, tag));
+        p.insert(2, g(13, 5, tag));
+        p.delete(2, g(9, 5, tag));
+    }
+    // Full: 72 members of one front bucket twice.
+    for (b, f) in [(3, 13), (1, 0)] {
+        p.fresh(0, b);
+        p.fresh(1, b);
+        p.fresh(2, b);
+        for n in 0..72 {
+            p.insert(0, g(f, 5, n));
+        }
+        p.merge(0, 0, 2);
+        p.merge(0, 1, 2);
+        p.merge(1, 0, 2);
+        p.insert(1, g(f, 0, 0));
+        p.merge(0, 1, 2);
+        p.insert(2, g(f, 0, 0));
+        p.merge(1, 1, 0);
+    }
+    full_with_fresh(p);
+    // The first's 3, the first's 8, the second's 3, the second's 8.
+    p.fresh(0, 3);
+    p.fresh(1, 3);
+    p.fresh(2, 3);
+    p.put_backyard(0, 5, vec![member(5, 1, 9)]);
+    p.merge(0, 1, 2);
+    p.merge(1, 0, 2);
+    p.put_byte(1, 20, 0, 0);
+    p.merge(0, 1, 2);
+    p.merge(1, 0, 2);
+    p.put_byte(0, 31, 63, 1);
+    p.merge(0, 1, 2);
+    p.fresh(0, 3);
+    p.merge(0, 1, 2);
+    p.merge(1, 0, 2);
+    // The target may hold anything.
+    p.merge(0, 0, 1);
+}
+
+/// Front bucket 8 has all its overflow in b1 = 0, front bucket 9 has it in b0 = b1 = 1. Merged
+/// in order, that of 8 spreads over backyard buckets 0 and 1, and that of 9 finds no room.
+fn full_with_fresh(p: &mut Player) {
+    p.fresh(0, 3);
+    p.fresh(1, 3);
+    p.fresh(2, 3);
+    p.put_front(0, 8, full_front());
+    p.put_front(0, 9, full_front());
+    p.put_backyard(0, 0, overflow(22, 9));
+    p.put_backyard(0, 1, overflow(22, 9));
+    p.check(0);
+    p.insert(2, g(1, 2, 3));
+    p.merge(0, 1, 2);
+    p.insert(2, g(1, 2, 3));
+    p.merge(1, 0, 2);
+}
+
+/// The example of the small program.
+fn program(p: &mut Player) {
+    p.fresh(0, 3);
+    let k = 0x8000000040000007;
+    p.play(Line::Insert { x: 0, hash: k });
+    p.play(Line::Insert { x: 0, hash: k });
+    p.play(Line::Ask { x: 0, hash: 0 });
+    p.play(Line::Count { x: 0, hash: k });
+    p.play(Line::Delete { x: 0, hash: k });
+    p.page(0, 0, 72);
+}
+
+/// The stored input.
+pub fn input() -> String {
+    let mut text = String::new();
+    let mut observer = |line: Line, _: u64, _: &Images| text += &line.text();
+    let p = &mut Player::new(20261115, &mut observer);
+    numbers(p);
+    lengths(p);
+    program(p);
+    capacity(p);
+    larger(p);
+    inserts(p);
+    deletes(p);
+    asks(p);
+    pages(p);
+    unsound_buckets(p);
+    early(p);
+    merges(p);
+    for (b, calls) in [(1, 60), (2, 60), (3, 80), (8, 50), (20, 40)] {
+        for kind in KINDS {
+            histories::play(p, kind, b, calls);
+        }
+    }
+    text
+}
+
+/// Stored lines for the small program: document 01's example, malformed lines, every operation
+/// with every answer it can have there, and a last line without its newline.
+pub fn frames() -> String {
+    let mut random = Random::new(3);
+    let mut line = |operation: u64, g: Fingerprint| {
+        let hash = hash_of(g, Shape { b: 3 }, &mut random);
+        format!("{operation:02X}{hash:016X}\n")
+    };
+    let list = "050000000000000000\n";
+    // Two front buckets that share backyard bucket 1, filled until both are full.
+    let mut filled = String::new();
+    for (f, from, to) in [(13, 0, 50), (9, 0, 50), (13, 50, 80)] {
+        for n in from..to {
+            filled += &line(1, g(f, 7 * n % 36, n % 5 * 300));
+            filled += &line(3, g(f, 7 * n % 36, n % 3 * 300));
+            filled += &line(4, g(f, 7 * n % 36, 0));
+        }
+    }
+    let mut emptied = String::new();
+    for n in 0..90 {
+        for f in [13, 9] {
+            emptied += &line(2, g(f, 7 * n % 36, n % 5 * 300));
+            emptied += &line(3, g(f, 7 * n % 36, n % 2 * 300));
+        }
+    }
+    let example = "\
+018000000040000007
+018000000040000007
+030000000000000000
+048000000040000007
+028000000040000007
+050000000000000000
+";
+    let malformed = "\
+\n01\n01800000004000000\n0180000000400000070\n01800000004000000a\n018000000040000007\r
+000000000000000000\n060000000000000000\nFF8000000040000007\n050000000000000001
++18000000040000007\n 18000000040000007\n01800000004000000G\n01 000000040000007
+0180000000400000:7\n01800000004000000@\n01800000004000000/\n01800000004000000`\n\n
+";
+    let last = "04FFFFFFFFFFFFFFFF\n01FFFFFFFFFFFFFFFF\n04FFFFFFFFFFFFFFFF";
+    [
+        example, malformed, list, &filled, list, &emptied, list, last,
+    ]
+    .concat()
+}
+
+#[cfg(test)]
+mod tests {
+    use super::*;
+    use crate::branches;
+    use crate::catalogue::Model;
+    use std::collections::BTreeSet;
+
+    #[test]
+    fn every_branch_and_every_number() {
+        let input = input();
+        assert!(input.len() < 400_000, "{} bytes", input.len());
+        let mut images = Images::default();
+        let mut met = BTreeSet::new();
+        let mut numbers = BTreeSet::new();
+        for line in input.lines() {
+            let line = Line::parse(line).expect("a stored line");
+            let before = images.clone();
+            let answer = images.perform(&Model, line);
+            met.extend(branches::of(&before, line, answer >> 56 == 0));
+            numbers.insert(answer >> 56);
+            assert!(images
+                .image
+                .iter()
+                .all(|image| image.len() <= LONGEST_IMAGE));
+            assert!(images.out.len() <= LONGEST_OUTPUT);
+        }
+        let all: BTreeSet<String> = branches::ALL.iter().map(|name| name.to_string()).collect();
+        let missing: Vec<&String> = all.difference(&met).collect();
+        let unknown: Vec<&String> = met.difference(&all).collect();
+        assert!(missing.is_empty(), "missing: {missing:#?}");
+        assert!(unknown.is_empty(), "not named in ALL: {unknown:#?}");
+        assert_eq!(numbers, (0..=8).collect());
+    }
+}

@@ -1,0 +1,39 @@
+//! The second program: the breadcrumb catalogue as a plain machine on bags of fingerprints.
+//!
+//! It is written from document 01 alone and for correctness alone. A bucket is decoded to the
+//! list of its members, the bags are changed as the sentences say, and the bucket is encoded
+//! again. Nothing here is fast.
+//!
+//! The machine:
+//! - `shape`: lengths and the numbers of buckets
+//! - `fingerprint`: front bucket, mini-bucket and tag of a hash
+//! - `map`: from a front bucket to its two backyard buckets and back
+//! - `bucket`: the members of a bucket from its 64 bytes and back
+//! - `calls`: the eight calls
+//! - `catalogue`: the calls with the packed answers of the C boundary
+//! - `program`: the small program, lines to answers
+//!
+//! What tries others against it:
+//! - `stored`: stored calls as lines of text, performed on three images
+//! - `prepare`: plays lines, makes hashes and buckets
+//! - `histories`: random histories
+//! - `cases`: the calls that are stored for the program `trial`
+//! - `vectors`: calls of another model, replayed
+//! - `branches`: the branches of the machine that a call takes
+//! - `random`, `sha256`: small helpers
+
+pub mod branches;
+pub mod bucket;
+pub mod calls;
+pub mod cases;
+pub mod catalogue;
+pub mod fingerprint;
+pub mod histories;
+pub mod map;
+pub mod prepare;
+pub mod program;
+pub mod random;
+pub mod sha256;
+pub mod shape;
+pub mod stored;
+pub mod vectors;

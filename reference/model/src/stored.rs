@@ -1,0 +1,249 @@
+//! Stored calls: lines of fixed width, performed on three images and one output.
+//!
+//! The format is written down in reference/README.md.
+
+use crate::catalogue::{Catalogue, Model};
+
+/// Bytes of a line, without its newline.
+pub const WIDTH: usize = 29;
+
+/// One line. `x`, `y` and `z` number the images from 0 to 2.
+#[derive(Clone, Copy, PartialEq, Eq, Debug)]
+pub enum Line {
+    /// Image x becomes so many zero bytes.
+    New {
+        x: usize,
+        length: usize,
+    },
+    Insert {
+        x: usize,
+        hash: u64,
+    },
+    Delete {
+        x: usize,
+        hash: u64,
+    },
+    Ask {
+        x: usize,
+        hash: u64,
+    },
+    Count {
+        x: usize,
+        hash: u64,
+    },
+    /// The output has `length` entries, entry i holding 2^64 - 1 - i before the call.
+    Page {
+        x: usize,
+        start: u64,
+        length: usize,
+    },
+    Fresh {
+        x: usize,
+    },
+    Check {
+        x: usize,
+    },
+    /// x and y into z, which is neither.
+    Merge {
+        x: usize,
+        y: usize,
+        z: usize,
+    },
+    /// Eight bytes of image x from `at` on are overwritten, little-endian.
+    Poke {
+        x: usize,
+        at: usize,
+        word: u64,
+    },
+    /// Image y becomes a copy of image x.
+    Copy {
+        x: usize,
+        y: usize,
+    },
+}
+
+impl Line {
+    /// Operation, x, y, z, p and q.
+    fn fields(self) -> (u64, usize, usize, usize, u64, usize) {
+        match self {
+            Line::New { x, length } => (0x00, x, 0, 0, 0, length),
+            Line::Insert { x, hash } => (0x01, x, 0, 0, hash, 0),
+            Line::Delete { x, hash } => (0x02, x, 0, 0, hash, 0),
+            Line::Ask { x, hash } => (0x03, x, 0, 0, hash, 0),
+            Line::Count { x, hash } => (0x04, x, 0, 0, hash, 0),
+            Line::Page { x, start, length } => (0x05, x, 0, 0, start, length),
+            Line::Fresh { x } => (0x06, x, 0, 0, 0, 0),
+            Line::Check { x } => (0x07, x, 0, 0, 0, 0),
+            Line::Merge { x, y, z } => (0x08, x, y, z, 0, 0),
+            Line::Poke { x, at, word } => (0x09, x, 0, 0, word, at),
+            Line::Copy { x, y } => (0x0A, x, y, 0, 0, 0),
+        }
+    }
+
+    pub fn text(self) -> String {
+        let (operation, x, y, z, p, q) = self.fields();
+        format!("{operation:02X}{x}{y}{z}{p:016X}{q:08X}\n")
+    }
+
+    pub fn parse(text: &str) -> Option<Line> {
+        let field = |from: usize, to: usize| u64::from_str_radix(text.get(from..to)?, 16).ok();
+        let (operation, p) = (field(0, 2)?, field(5, 21)?);
+        let (x, y, z) = (
+            field(2, 3)? as usize,
+            field(3, 4)? as usize,
+            field(4, 5)? as usize,
+        );
+        let q = field(21, 29)? as usize;
+        let line = match operation {
+            0x00 => Line::New { x, length: q },
+            0x01 => Line::Insert { x, hash: p },
+            0x02 => Line::Delete { x, hash: p },
+            0x03 => Line::Ask { x, hash: p },
+            0x04 => Line::Count { x, hash: p },
+            0x05 => Line::Page {
+                x,
+                start: p,
+                length: q,
+            },
+            0x06 => Line::Fresh { x },
+            0x07 => Line::Check { x },
+            0x08 => Line::Merge { x, y, z },
+            0x09 => Line::Poke { x, at: q, word: p },
+            0x0A => Line::Copy { x, y },
+            _ => return None,
+        };
+        (line.text().trim_end() == text).then_some(line)
+    }
+
+    /// The images that the line names.
+    pub fn images(self) -> Vec<usize> {
+        match self {
+            Line::Merge { x, y, z } => vec![x, y, z],
+            Line::Copy { x, y } => vec![x, y],
+            _ => vec![self.fields().1],
+        }
+    }
+
+    /// Whether the line is one of the eight calls.
+    pub fn is_call(self) -> bool {
+        !matches!(
+            self,
+            Line::New { .. } | Line::Poke { .. } | Line::Copy { .. }
+        )
+    }
+}
+
+/// Three images, and the output of the last page.
+#[derive(Clone, Default, PartialEq, Eq)]
+pub struct Images {
+    pub image: [Vec<u8>; 3],
+    pub out: Vec<u64>,
+}
+
+impl Images {
+    /// Performs a line. The answer of a line that is no call is 0.
+    pub fn perform(&mut self, catalogue: &dyn Catalogue, line: Line) -> u64 {
+        self.out.clear();
+        match line {
+            Line::New { x, length } => self.image[x] = vec![0; length],
+            Line::Poke { x, at, word } => {
+                self.image[x][at..at + 8].copy_from_slice(&word.to_le_bytes())
+            }
+            Line::Copy { x, y } => self.image[y] = self.image[x].clone(),
+            Line::Insert { x, hash } => return catalogue.insert(&mut self.image[x], hash),
+            Line::Delete { x, hash } => return catalogue.delete(&mut self.image[x], hash),
+            Line::Ask { x, hash } => return catalogue.ask(&self.image[x], hash),
+            Line::Count { x, hash } => return catalogue.count(&self.image[x], hash),
+            Line::Page { x, start, length } => {
+                self.out = (0..length as u64).map(|i| u64::MAX - i).collect();
+                return catalogue.page(&self.image[x], start, &mut self.out);
+            }
+            Line::Fresh { x } => return catalogue.fresh(&mut self.image[x]),
+            Line::Check { x } => return catalogue.check(&self.image[x]),
+            Line::Merge { x, y, z } => {
+                assert!(z != x && z != y, "the target is no source");
+                let mut target = std::mem::take(&mut self.image[z]);
+                let answer = catalogue.merge(&self.image[x], &self.image[y], &mut target);
+                self.image[z] = target;
+                return answer;
+            }
+        }
+        0
+    }
+
+    /// FNV-1a over the bytes that the call was lent: the image and, for a page, the output;
+    /// for a merge the three images in their order.
+    fn checksum(&self, line: Line) -> u64 {
+        let mut sum = FNV_START;
+        for x in line.images() {
+            sum = fnv1a(sum, &self.image[x]);
+        }
+        for entry in &self.out {
+            sum = fnv1a(sum, &entry.to_le_bytes());
+        }
+        sum
+    }
+
+    /// The line that answers a call; nothing for a line that is no call.
+    pub fn answer(&mut self, catalogue: &dyn Catalogue, line: Line) -> String {
+        let answer = self.perform(catalogue, line);
+        if !line.is_call() {
+            return String::new();
+        }
+        let (operation, ..) = line.fields();
+        format!("{operation:02X}{answer:016X}{:016X}\n", self.checksum(line))
+    }
+}
+
+pub const FNV_START: u64 = 0xCBF29CE484222325;
+
+/// FNV-1a, 64 bits, going on from `sum`.
+pub fn fnv1a(sum: u64, bytes: &[u8]) -> u64 {
+    bytes.iter().fold(sum, |sum, &byte| {
+        (sum ^ byte as u64).wrapping_mul(0x100000001B3)
+    })
+}
+
+/// The output for stored calls.
+pub fn run(input: &str) -> String {
+    let mut images = Images::default();
+    let answer = |line| images.answer(&Model, Line::parse(line).expect("a stored line"));
+    input.lines().map(answer).collect()
+}
+
+#[cfg(test)]
+mod tests {
+    use super::*;
+
+    #[test]
+    fn published_checksums() {
+        assert_eq!(fnv1a(FNV_START, b""), 0xCBF29CE484222325);
+        assert_eq!(fnv1a(FNV_START, b"a"), 0xAF63DC4C8601EC8C);
+        assert_eq!(fnv1a(FNV_START, b"foobar"), 0x85944171F73967E8);
+    }
+
+    #[test]
+    fn lines_are_read_back() {
+        for line in [
+            Line::New { x: 2, length: 1600 },
+            Line::Insert { x: 1, hash: 7 },
+            Line::Page {
+                x: 0,
+                start: 9,
+                length: 72,
+            },
+            Line::Merge { x: 1, y: 1, z: 2 },
+            Line::Poke {
+                x: 0,
+                at: 512,
+                word: u64::MAX,
+            },
+            Line::Copy { x: 0, y: 2 },
+        ] {
+            let text = line.text();
+            assert_eq!(text.len(), WIDTH + 1);
+            assert_eq!(Line::parse(text.trim_end()), Some(line));
+        }
+        assert_eq!(Line::parse("01"), None);
+    }
+}

@@ -1,0 +1,150 @@
+//! Replays calls of another model from text, and compares every answer and every byte.
+//!
+//! A line is `CALL = RESULT`; a line that begins with # starts a history, without images.
+//!
+//! ```text
+//! new R LENGTH         image R becomes so many zero bytes         = - SHA
+//! poke R AT HEX        bytes of R from AT on are overwritten      = - SHA
+//! fresh R              check R                                    = 0 SHA
+//! insert R HASH        delete R HASH                              = 0 ANSWER SHA
+//! ask R HASH           no slot: -                                 = 0 READS PLACE SLOT SHA
+//! count R HASH                                                    = 0 COPIES READS SHA
+//! page R S LENGTH      output entry i holds 2^64 - 1 - i before   = 0 HOW_MANY NEXT SHA SHA_OUTPUT
+//! merge R R2 R3        R3 is the target                           = 0 SHA SHA2 SHA3
+//! ```
+//!
+//! A refusal has NUMBER, or NUMBER TABLE_NUMBER, in the place of 0 and the values. HASH and HEX
+//! are in hex, other numbers in base ten. SHA is the SHA-256 of the image after the call.
+
+use crate::catalogue::Catalogue;
+use crate::sha256::sha256;
+use std::collections::HashMap;
+
+type Images = HashMap<String, Vec<u8>>;
+
+/// What a replay found: the calls compared, and a text for each that differs.
+pub struct Replayed {
+    pub compared: u64,
+    pub differences: Vec<String>,
+}
+
+fn number(word: &str) -> u64 {
+    word.parse().expect("a number in base ten")
+}
+
+fn hash(word: &str) -> u64 {
+    u64::from_str_radix(word, 16).expect("a number in hex")
+}
+
+fn bytes(word: &str) -> Vec<u8> {
+    let pair = |at: usize| u8::from_str_radix(&word[at..at + 2], 16).expect("two hex digits");
+    (0..word.len()).step_by(2).map(pair).collect()
+}
+
+/// A packed answer as text: `0` and the values, or the refusal.
+fn text(answer: u64, values: impl Fn(u64) -> String) -> String {
+    let (number, value) = (answer >> 56, answer % (1 << 56));
+    match number {
+        0 => format!("0{}", values(value)),
+        3 | 8 => format!("{number} {value}"),
+        _ => number.to_string(),
+    }
+}
+
+fn asked(value: u64) -> String {
+    let (reads, place, slot) = (value % 16, value / 16 % 16, value / 256);
+    match place {
+        0 => format!(" {reads} 0 -"),
+        _ => format!(" {reads} {place} {slot}"),
+    }
+}
+
+/// Two values, the first in the lower 32 bits.
+fn pair(value: u64) -> String {
+    format!(" {} {}", value % (1 << 32), value >> 32)
+}
+
+/// Performs one call: the text of its result.
+fn perform(catalogue: &dyn Catalogue, images: &mut Images, call: &str) -> String {
+    let words: Vec<&str> = call.split(' ').collect();
+    let nothing = |_| String::new();
+    if words[0] == "merge" {
+        let mut target = images.remove(words[3]).expect("an image");
+        let answer = catalogue.merge(&images[words[1]], &images[words[2]], &mut target);
+        images.insert(words[3].to_string(), target);
+        let digests: Vec<String> = words[1..].iter().map(|r| sha256(&images[*r])).collect();
+        return format!("{} {}", text(answer, nothing), digests.join(" "));
+    }
+    if words[0] == "new" {
+        images.insert(words[1].to_string(), vec![0; number(words[2]) as usize]);
+    }
+    let image = images.get_mut(words[1]).expect("an image");
+    let answer = |value| format!(" {value}");
+    let mut output_digest = String::new();
+    let result = match words[0] {
+        "new" => "-".to_string(),
+        "poke" => {
+            let (at, new) = (number(words[2]) as usize, bytes(words[3]));
+            image[at..at + new.len()].copy_from_slice(&new);
+            "-".to_string()
+        }
+        "fresh" => text(catalogue.fresh(image), nothing),
+        "check" => text(catalogue.check(image), nothing),
+        "insert" => text(catalogue.insert(image, hash(words[2])), answer),
+        "delete" => text(catalogue.delete(image, hash(words[2])), answer),
+        "ask" => text(catalogue.ask(image, hash(words[2])), asked),
+        "count" => text(catalogue.count(image, hash(words[2])), pair),
+        "page" => {
+            let mut out: Vec<u64> = (0..number(words[3])).map(|i| u64::MAX - i).collect();
+            let answer = catalogue.page(image, number(words[2]), &mut out);
+            let written: Vec<u8> = out.iter().flat_map(|x| x.to_le_bytes()).collect();
+            output_digest = format!(" {}", sha256(&written));
+            text(answer, pair)
+        }
+        other => panic!("no such call: {other}"),
+    };
+    format!("{result} {}{output_digest}", sha256(image))
+}
+
+/// Replays a whole text.
+pub fn replay(catalogue: &dyn Catalogue, lines: &str) -> Replayed {
+    let mut images = Images::new();
+    let mut compared = 0;
+    let mut differences = Vec::new();
+    for (at, line) in lines.lines().enumerate() {
+        if line.starts_with('#') {
+            images.clear();
+            continue;
+        }
+        let (call, expected) = line.split_once(" = ").expect("CALL = RESULT");
+        let got = perform(catalogue, &mut images, call);
+        compared += 1;
+        if got != expected {
+            let at = at + 1;
+            differences.push(format!("line {at}: {call}\n  {expected}\n  got {got}"));
+        }
+    }
+    Replayed {
+        compared,
+        differences,
+    }
+}
+
+#[cfg(test)]
+mod tests {
+    use super::*;
+    use crate::catalogue::Model;
+
+    #[test]
+    fn a_difference_is_seen() {
+        let fresh = sha256(&crate::prepare::fresh_image(1));
+        let good = format!(
+            "# a\nnew a 1024 = - {}\nfresh a = 0 {fresh}\ndelete a 1F = 5 {fresh}\nask a 1F = 0 1 0 - {fresh}\n",
+            sha256(&[0; 1024])
+        );
+        let replayed = replay(&Model, &good);
+        assert_eq!((replayed.compared, replayed.differences.len()), (4, 0));
+        let wrong = good.replace("= 5", "= 4");
+        assert_eq!(replay(&Model, &wrong).differences.len(), 1);
+    }
+}

@@ -1,0 +1,89 @@
+//! A day of readings: 96 quarter hours of 20 houses are filed, asked for, taken out and merged
+//! with another day. Prints the same as the example in C.
+
+use breadcrumb::{Changed, Image, Place, Refusal};
+
+const B: usize = 20;
+const HOUSES: u64 = 20;
+const QUARTERS: u64 = 96;
+
+/// SplitMix64's finaliser.
+fn hash_of(house: u64, quarter: u64) -> u64 {
+    let mut z = house << 32 | quarter;
+    z = (z ^ (z >> 30)).wrapping_mul(0xBF58476D1CE4E5B9);
+    z = (z ^ (z >> 27)).wrapping_mul(0x94D049BB133111EB);
+    z ^ (z >> 31)
+}
+
+fn file_day(from: u64) -> Result<Image<Vec<u8>>, Refusal> {
+    let mut image = Image::new(B)?;
+    let mut behind = 0;
+    for house in 0..HOUSES {
+        for quarter in from..from + QUARTERS {
+            let changed = image.insert(hash_of(house, quarter))?;
+            behind += (changed != Changed::Front) as u32;
+        }
+    }
+    image.check()?;
+    let readings = HOUSES * QUARTERS;
+    println!("filed {readings} readings, {behind} times with overflow");
+    Ok(image)
+}
+
+/// Walks the pages of an image.
+fn list<Bytes: AsRef<[u8]>>(name: &str, image: &Image<Bytes>) -> Result<(), Refusal> {
+    let (mut next, mut members, mut last, mut pages) = (0, 0, 0, 0);
+    while next < 8 * B as u64 {
+        let mut out = [0; 100];
+        let page = image.page(next, &mut out)?;
+        members += page.how_many;
+        last = out[..page.how_many].last().copied().unwrap_or(last);
+        next = page.next;
+        pages += 1;
+    }
+    println!("{name}: {members} members on {pages} pages, the last {last}");
+    Ok(())
+}
+
+/// The number and the slot of a place.
+fn place(place: Place) -> (u64, u64) {
+    match place {
+        Place::None => (0, 0),
+        Place::Front(slot) => (1, slot),
+        Place::First(slot) => (2, slot),
+        Place::Second(slot) => (3, slot),
+    }
+}
+
+fn main() -> Result<(), Refusal> {
+    let mut today = file_day(0)?;
+    let tomorrow = file_day(QUARTERS)?;
+    list("today", &today)?;
+
+    let asked = today.ask(hash_of(7, 30))?;
+    let (number, slot) = place(asked.place);
+    let reads = asked.reads;
+    println!("house 7, quarter 30: place {number}, slot {slot}, {reads} reads");
+    let (number, _) = place(today.ask(hash_of(99, 30))?.place);
+    println!("house 99, quarter 30: place {number}");
+
+    today.insert(hash_of(7, 30))?;
+    let copies = today.count(hash_of(7, 30))?.copies;
+    println!("filed twice: {copies} copies");
+    today.delete(hash_of(7, 30))?;
+    today.delete(hash_of(7, 30))?;
+    if today.delete(hash_of(7, 30)) == Err(Refusal::Absent) {
+        println!("taken out a third time: 5");
+    }
+
+    // The target may be lent bytes of any content.
+    let mut bytes = vec![0; today.bytes().len()];
+    let mut both = Image::over(&mut bytes[..]);
+    both.merge(&today, &tomorrow)?;
+    list("both days", &both)?;
+    bytes[..2].fill(0xFF);
+    if let Err(Refusal::Unsound(table)) = Image::over(&bytes[..]).check() {
+        println!("damaged: 3 in bucket {table}");
+    }
+    Ok(())
+}

@@ -1,0 +1,235 @@
+//! A safe wrapper over the C functions of the proved breadcrumb catalogue.
+//!
+//! A catalogue is a multiset of 64-bit hashes, kept as fingerprints in the bytes of an image:
+//! 576 × B + 448 bytes, B from 1 to 65,536. Hashes with equal fingerprints are alike.
+//!
+//! ```no_run
+//! use breadcrumb::{Image, Place};
+//!
+//! let mut image = Image::new(113).unwrap();
+//! image.insert(0x8000000040000007).unwrap();
+//! assert_ne!(image.ask(0x8000000040000007).unwrap().place, Place::None);
+//! ```
+
+pub mod packed;
+
+use std::fmt;
+
+/// Why a call was refused. A refused call has written nothing, but for the target of a merge
+/// that is full, which is then fresh.
+#[derive(Clone, Copy, PartialEq, Eq, Debug)]
+pub enum Refusal {
+    /// 1: the length is not 576 × B + 448 with B from 1 to 65,536.
+    WrongLength,
+    /// 2: the three images of a merge differ in length.
+    LengthsDiffer,
+    /// 3: a bucket that was read is unsound; its table number.
+    Unsound(u64),
+    /// 4: both backyard buckets are full.
+    Full,
+    /// 5: there is no such member to delete.
+    Absent,
+    /// 6: a page from beyond the last front bucket.
+    PastTheEnd,
+    /// 7: the first front bucket of a page does not fit into the output.
+    DoesNotFit,
+    /// 8: a backyard bucket has a member before its turn; its table number.
+    Early(u64),
+    /// A number that this wrapper does not know, with its value.
+    Other(u8, u64),
+}
+
+impl fmt::Display for Refusal {
+    fn fmt(&self, f: &mut fmt::Formatter) -> fmt::Result {
+        match self {
+            Refusal::WrongLength => write!(f, "1: wrong length"),
+            Refusal::LengthsDiffer => write!(f, "2: the lengths differ"),
+            Refusal::Unsound(table) => write!(f, "3: bucket {table} is unsound"),
+            Refusal::Full => write!(f, "4: full"),
+            Refusal::Absent => write!(f, "5: no such member"),
+            Refusal::PastTheEnd => write!(f, "6: past the last front bucket"),
+            Refusal::DoesNotFit => write!(f, "7: the bucket does not fit into the output"),
+            Refusal::Early(table) => write!(f, "8: bucket {table} has a member before its turn"),
+            Refusal::Other(number, value) => write!(f, "{number}: {value}"),
+        }
+    }
+}
+
+impl std::error::Error for Refusal {}
+
+/// Where an insert or a delete changed the image.
+#[derive(Clone, Copy, PartialEq, Eq, Debug)]
+pub enum Changed {
+    /// Its front bucket alone.
+    Front,
+    /// This backyard bucket as well, or alone: it took the overflow, or a member left it.
+    Backyard(u64),
+}
+
+/// Where an ask ended, with the lowest slot of the fingerprint there.
+#[derive(Clone, Copy, PartialEq, Eq, Debug)]
+pub enum Place {
+    None,
+    Front(u64),
+    First(u64),
+    Second(u64),
+}
+
+/// The answer of an ask.
+#[derive(Clone, Copy, PartialEq, Eq, Debug)]
+pub struct Asked {
+    pub reads: u64,
+    pub place: Place,
+}
+
+/// The answer of a count.
+#[derive(Clone, Copy, PartialEq, Eq, Debug)]
+pub struct Counted {
+    pub copies: u64,
+    pub reads: u64,
+}
+
+/// The answer of a page: how many fingerprints it wrote, and the front bucket to go on with.
+#[derive(Clone, Copy, PartialEq, Eq, Debug)]
+pub struct Paged {
+    pub how_many: usize,
+    pub next: u64,
+}
+
+/// The value of a packed answer, or the refusal.
+fn unpack(answer: u64) -> Result<u64, Refusal> {
+    let (number, value) = ((answer >> 56) as u8, answer & ((1 << 56) - 1));
+    Err(match number {
+        0 => return Ok(value),
+        1 => Refusal::WrongLength,
+        2 => Refusal::LengthsDiffer,
+        3 => Refusal::Unsound(value),
+        4 => Refusal::Full,
+        5 => Refusal::Absent,
+        6 => Refusal::PastTheEnd,
+        7 => Refusal::DoesNotFit,
+        8 => Refusal::Early(value),
+        _ => Refusal::Other(number, value),
+    })
+}
+
+fn changed(value: u64) -> Changed {
+    match value {
+        0 => Changed::Front,
+        _ => Changed::Backyard(value - 1),
+    }
+}
+
+/// A catalogue in bytes of any kind: owned as `Vec<u8>`, or lent as `&mut [u8]` or `&[u8]`.
+#[derive(Clone, PartialEq, Eq, Debug)]
+pub struct Image<Bytes> {
+    bytes: Bytes,
+}
+
+impl Image<Vec<u8>> {
+    /// A fresh image of its own with 8 × B front buckets.
+    pub fn new(b: usize) -> Result<Self, Refusal> {
+        if b == 0 || b > 65536 {
+            return Err(Refusal::WrongLength);
+        }
+        let mut image = Image::over(vec![0; 576 * b + 448]);
+        image.fresh()?;
+        Ok(image)
+    }
+}
+
+impl<Bytes: AsRef<[u8]>> Image<Bytes> {
+    /// These bytes as an image. Nothing is tested here: every call tests what it reads.
+    pub fn over(bytes: Bytes) -> Self {
+        Image { bytes }
+    }
+
+    pub fn bytes(&self) -> &[u8] {
+        self.bytes.as_ref()
+    }
+
+    pub fn into_bytes(self) -> Bytes {
+        self.bytes
+    }
+
+    /// Whether every bucket is sound and every backyard member in its turn.
+    pub fn check(&self) -> Result<(), Refusal> {
+        unpack(packed::check(self.bytes())).map(|_| ())
+    }
+
+    pub fn ask(&self, hash: u64) -> Result<Asked, Refusal> {
+        let value = unpack(packed::ask(self.bytes(), hash))?;
+        let slot = value / 256;
+        Ok(Asked {
+            reads: value % 16,
+            place: match value / 16 % 16 {
+                0 => Place::None,
+                1 => Place::Front(slot),
+                2 => Place::First(slot),
+                _ => Place::Second(slot),
+            },
+        })
+    }
+
+    pub fn count(&self, hash: u64) -> Result<Counted, Refusal> {
+        let value = unpack(packed::count(self.bytes(), hash))?;
+        Ok(Counted {
+            copies: value & 0xFFFFFFFF,
+            reads: value >> 32,
+        })
+    }
+
+    /// Lists whole front buckets from `start` on as far as they fit.
+    pub fn page(&self, start: u64, out: &mut [u64]) -> Result<Paged, Refusal> {
+        let value = unpack(packed::page(self.bytes(), start, out))?;
+        Ok(Paged {
+            how_many: (value & 0xFFFFFFFF) as usize,
+            next: value >> 32,
+        })
+    }
+
+    /// Every fingerprint, ascending, each as often as it is a member.
+    pub fn list(&self) -> Result<Vec<u64>, Refusal> {
+        let fronts = (self.bytes().len().saturating_sub(448) / 576 * 8) as u64;
+        let mut all = Vec::new();
+        let mut out = [0; 1024];
+        let mut next = 0;
+        loop {
+            let paged = self.page(next, &mut out)?;
+            all.extend_from_slice(&out[..paged.how_many]);
+            next = paged.next;
+            if next >= fronts {
+                return Ok(all);
+            }
+        }
+    }
+}
+
+impl<Bytes: AsRef<[u8]> + AsMut<[u8]>> Image<Bytes> {
+    /// Every bucket empty.
+    pub fn fresh(&mut self) -> Result<(), Refusal> {
+        unpack(packed::fresh(self.bytes.as_mut())).map(|_| ())
+    }
+
+    pub fn insert(&mut self, hash: u64) -> Result<Changed, Refusal> {
+        unpack(packed::insert(self.bytes.as_mut(), hash)).map(changed)
+    }
+
+    pub fn delete(&mut self, hash: u64) -> Result<Changed, Refusal> {
+        unpack(packed::delete(self.bytes.as_mut(), hash)).map(changed)
+    }
+
+    /// Writes the members of both sources into this image, whatever it held.
+    pub fn merge<First, Second>(
+        &mut self,
+        first: &Image<First>,
+        second: &Image<Second>,
+    ) -> Result<(), Refusal>
+    where
+        First: AsRef<[u8]>,
+        Second: AsRef<[u8]>,
+    {
+        let target = self.bytes.as_mut();
+        unpack(packed::merge(first.bytes(), second.bytes(), target)).map(|_| ())
+    }
+}
