@@ -16,14 +16,15 @@ use Rattle.crumbmap.specs.Layouts.{Layout, keys, fronts}
 use Rattle.crumbmap.specs.Fingerprints.{frontOf, keyOf, fingerprint}
 use Rattle.crumbmap.proofs.FingerprintLaws.{frontOf-lt, keyOf-lt, fingerprint-lt, fingerprint-unique}
 use Rattle.minifilter.specs.Buckets.{Fits64}
-use Rattle.machine.specs.Results.{accepted, refused, number}
+use Rattle.machine.specs.Results.{Result, accepted, refused, number}
 use Rattle.machine.specs.Images.{sizeOf}
-use Rattle.machine.specs.Machine.{insertAt, deleteAt, full, Place, nowhere}
+use Rattle.machine.specs.Machine.{full, insertAt, deleteAt, Place, nowhere}
 use Rattle.machine.specs.Pages.{pageFrom}
 use Rattle.machine.specs.Merges.{mergeSized}
 use Rattle.machine.specs.Calls.{freshOf, insertOf, deleteOf, askOf, countOf, pageOf, mergeOf, written, imageOf}
 use Rattle.machine.proofs.ImageLaws.{sizeOf-some}
-use Rattle.history.specs.Histories.{Call, insert, delete, ask, count, page, History, fresh, merge, followed, Fits, blocks, numberOf, imageAfter, bytesAfter, Started}
+use Rattle.history.specs.Histories.{Call, insert, delete, ask, count, page, Fits, History, fresh, merge, followed}
+use Rattle.history.specs.Histories.{blocks, numberOf, imageAfter, bytesAfter, Started}
 use Rattle.history.specs.Ledgers.{fingerprintOf, entered, ledger, smaller}
 use Rattle.history.specs.Refusals.{due, Due}
 use Rattle.machine.proofs.Invariant.{Good, OneMore, total}
@@ -39,6 +40,18 @@ pub record Keeps (L : Layout) (B : ℕ) (img : List ℕ) (N : ℕ → ℕ) : Typ
   pub good : Good L B img
   pub says : Says L B N img
   pub none-past : (g : ℕ) → fronts B * keys L ≤ g → N g ≡ 0
+
+-- a call on the image gives number n, and image and ledger still go together after it
+abbrev pub Stepped : Layout → ℕ → List ℕ → (ℕ → ℕ) → Call → ℕ → Type 0
+Stepped L B img N c n = (numberOf L img c ≡ n) × Keeps L B (imageAfter L img c) (entered L B (numberOf L img c) c N)
+
+-- a start that writes over `old` leaves an image that goes with N
+abbrev pub Starts : Layout → Result (List ℕ) → List ℕ → (ℕ → ℕ) → Type 0
+Starts L r old N = Keeps L (Option·getD (sizeOf (length old)) 0) (written r old) N
+
+-- the number that is due for a page
+abbrev pageNumber : Layout → ℕ → (ℕ → ℕ) → ℕ → ℕ → ℕ
+pageNumber L B N s room = cond (ltb (fronts B) s) 6 (cond (ltb s (fronts B) && ltb room (sum N (fingerprint L s 0) (keys L))) 7 0)
 
 -- ---- the ledger: an accepted insert and an accepted delete through `hit`
 
@@ -73,7 +86,8 @@ module _ (L : Layout) (B : ℕ) where
       go true q = rw (eqb-true e f q, same) (m .here y)
       go false q =
           let n : e ≡ f → ⊥ = eqb-false e f q in
-          rw (hit-other (fingerprint L e y) (fingerprint L f x) (λ p. n (fingerprint-unique L e f y x l k p .0))) (omega (arith, m .elsewhere e y h n))
+          let apart : hit (fingerprint L e y) (fingerprint L f x) ≡ 0 = hit-other _ _ (λ p. n (fingerprint-unique L e f y x l k p .0)) in
+          omega (arith, m .elsewhere e y h n)
 
   -- the ledger and the image with one more of key x of front bucket f, and the other way round
   keeps-more : (f x : ℕ) (old now : List ℕ) (M N : ℕ → ℕ) → f < fronts B → x < keys L → Keeps L B old M → Good L B now → OneMore L B f x old now
@@ -123,29 +137,24 @@ module _ (L : Layout) (fits : Fits64 L) (B : ℕ) (img : List ℕ) (N : ℕ → 
   ledger-total k h = keep .says (frontOf B k) (keyOf L k) (front-lt k h) (key-lt k)
 
   -- each call: the number that is due, and image and ledger after it still go together
-  insert-step : (k : ℕ) → k < 2 ^ 64
-      → (number (insertOf L img k) ≡ cond (full L B (frontOf B k) img) 4 0)
-      × Keeps L B (imageOf (insertOf L img k) img) (entered L B (number (insertOf L img k)) (insert k) N)
+  insert-step : (k : ℕ) → k < 2 ^ 64 → Stepped L B img N (insert k) (cond (full L B (frontOf B k) img) 4 0)
   unfolding entered
   insert-step k h = go (insert-keeps L fits B (frontOf B k) (keyOf L k) img (keep .good) (front-lt k h) (key-lt k))
     where
-      go : Inserted L B (frontOf B k) (keyOf L k) img
-          → (number (insertOf L img k) ≡ cond (full L B (frontOf B k) img) 4 0)
-          × Keeps L B (imageOf (insertOf L img k) img) (entered L B (number (insertOf L img k)) (insert k) N)
+      go : Inserted L B (frontOf B k) (keyOf L k) img → Stepped L B img N (insert k) (cond (full L B (frontOf B k) img) 4 0)
       go (took a now e room good m) =
-          rw (insertOf-at k, e, room)
-          (refl, keeps-more L B (frontOf B k) (keyOf L k) img now N (entered L B 0 (insert k) N) (front-lt k h) (key-lt k) keep good m (entered-insert L B k N))
+          rw (insertOf-at k, e, room) (
+            refl,
+            keeps-more L B (frontOf B k) (keyOf L k) img now N (entered L B 0 (insert k) N) (front-lt k h) (key-lt k) keep good m
+                (entered-insert L B k N),
+          )
       go (stuck e room) = rw (insertOf-at k, e, room) (refl, keep)
 
-  delete-step : (k : ℕ) → k < 2 ^ 64
-      → (number (deleteOf L img k) ≡ cond (eqb (N (fingerprintOf L B k)) 0) 5 0)
-      × Keeps L B (imageOf (deleteOf L img k) img) (entered L B (number (deleteOf L img k)) (delete k) N)
+  delete-step : (k : ℕ) → k < 2 ^ 64 → Stepped L B img N (delete k) (cond (eqb (N (fingerprintOf L B k)) 0) 5 0)
   unfolding entered
   delete-step k h = go (delete-keeps L fits B (frontOf B k) (keyOf L k) img (keep .good) (front-lt k h) (key-lt k))
     where
-      go : Deleted L B (frontOf B k) (keyOf L k) img
-          → (number (deleteOf L img k) ≡ cond (eqb (N (fingerprintOf L B k)) 0) 5 0)
-          × Keeps L B (imageOf (deleteOf L img k) img) (entered L B (number (deleteOf L img k)) (delete k) N)
+      go : Deleted L B (frontOf B k) (keyOf L k) img → Stepped L B img N (delete k) (cond (eqb (N (fingerprintOf L B k)) 0) 5 0)
       go (gone a now e good m) =
           let some-there : 0 < N (fingerprintOf L B k) = omega (arith, ledger-total k h, m .here (keyOf L k), hit-same (keyOf L k)) in
           rw (deleteOf-at k, e, ne-eqb (N (fingerprintOf L B k)) 0 (λ z. omega arith)) (
@@ -176,7 +185,7 @@ module _ (L : Layout) (fits : Fits64 L) (B : ℕ) (img : List ℕ) (N : ℕ → 
       rw (keep .good .size, ledger-total k h, smaller-ledger (frontOf B k) (keyOf L k) (front-lt k h) (key-lt k))
       (ask-total L B img (keep .good) (frontOf B k) (front-lt k h) (keyOf L k) (fits .slots))
 
-  page-due : (s room : ℕ) → number (pageOf L img s room) ≡ cond (ltb (fronts B) s) 6 (cond (ltb s (fronts B) && ltb room (sum N (fingerprint L s 0) (keys L))) 7 0)
+  page-due : (s room : ℕ) → number (pageOf L img s room) ≡ pageNumber L B N s room
   page-due s room = go (page-good L B img (keep .good) N (keep .says) s room)
     where
       fit : (t : Bool) → ltb s (fronts B) ≡ t → (s < fronts B → sum N (fingerprint L s 0) (keys L) ≤ room)
@@ -184,7 +193,7 @@ module _ (L : Layout) (fits : Fits64 L) (B : ℕ) (img : List ℕ) (N : ℕ → 
       fit true e l = rw (e, le-ltb _ _ (l (ltb-true _ _ e))) refl
       fit false e l = rw e refl
 
-      go : Paged L B N s room img → number (pageOf L img s room) ≡ cond (ltb (fronts B) s) 6 (cond (ltb s (fronts B) && ltb room (sum N (fingerprint L s 0) (keys L))) 7 0)
+      go : Paged L B N s room img → number (pageOf L img s room) ≡ pageNumber L B N s room
       go (beyond e l) = rw (pageOf-at s room, e, lt-ltb _ _ l) refl
       go (unfit e l r) = rw (pageOf-at s room, e, le-ltb (fronts B) s (omega arith), lt-ltb _ _ l, lt-ltb _ _ r) refl
       go (listed r e l f a b g) = rw (pageOf-at s room, e, le-ltb _ _ l) (fit (ltb s (fronts B)) refl f)
@@ -200,15 +209,20 @@ module _ (L : Layout) (fits : Fits64 L) (B : ℕ) (img : List ℕ) (N : ℕ → 
 -- ---- the starts
 
 module _ (L : Layout) (fits : Fits64 L) where
-  fresh-keeps : (old : List ℕ) → number (freshOf L old) ≡ 0 → Keeps L (Option·getD (sizeOf (length old)) 0) (written (freshOf L old) old) (λ (g : ℕ). 0)
+  fresh-keeps : (old : List ℕ) → number (freshOf L old) ≡ 0 → Starts L (freshOf L old) old (λ (g : ℕ). 0)
   unfolding freshOf
   fresh-keeps old h = go (sizeOf (length old)) refl
     where
-      go : (o : Option ℕ) → sizeOf (length old) ≡ o → Keeps L (Option·getD (sizeOf (length old)) 0) (written (freshOf L old) old) (λ (g : ℕ). 0)
+      go : (o : Option ℕ) → sizeOf (length old) ≡ o → Starts L (freshOf L old) old (λ (g : ℕ). 0)
       go none e = absurd (omega (arith, rw e at h))
       go (some B) e =
           let s = sizeOf-some (length old) B e in
-          rw e (record { good = empty-good L fits B (s .1) (s .2); says = λ f x l k. sym (empty-total L fits B f x l); none-past = λ g l. refl })
+          rw e
+          (record {
+            good = empty-good L fits B (s .1) (s .2);
+            says = λ f x l k. sym (empty-total L fits B f x l);
+            none-past = λ g l. refl;
+          })
 
   -- a merge of three images of one size
   pub mergeOf-at : (B : ℕ) (a b old : List ℕ) → sizeOf (length a) ≡ some B → sizeOf (length b) ≡ some B → sizeOf (length old) ≡ some B
@@ -216,8 +230,8 @@ module _ (L : Layout) (fits : Fits64 L) where
   unfolding mergeOf
   mergeOf-at B a b old p q r = rw (p, q, r, eq-eqb B B refl) refl
 
-  merge-same : (B : ℕ) (a b old : List ℕ) (M N : ℕ → ℕ) → Keeps L B a M → Keeps L B b N → sizeOf (length old) ≡ some B → number (mergeOf L a b old) ≡ 0
-      → Keeps L B (written (mergeOf L a b old) old) (λ (g : ℕ). M g + N g)
+  merge-same : (B : ℕ) (a b old : List ℕ) (M N : ℕ → ℕ) → Keeps L B a M → Keeps L B b N → sizeOf (length old) ≡ some B
+      → number (mergeOf L a b old) ≡ 0 → Keeps L B (written (mergeOf L a b old) old) (λ (g : ℕ). M g + N g)
   merge-same B a b old M N ka kb s h = go (merge-good L fits B a b (ka .good) (kb .good))
     where
       at : mergeOf L a b old ≡ mergeSized L B a b
@@ -234,7 +248,7 @@ module _ (L : Layout) (fits : Fits64 L) where
           })
 
   merge-keeps : (A C : ℕ) (a b old : List ℕ) (M N : ℕ → ℕ) → Keeps L A a M → Keeps L C b N → number (mergeOf L a b old) ≡ 0
-      → Keeps L (Option·getD (sizeOf (length old)) 0) (written (mergeOf L a b old) old) (λ (g : ℕ). M g + N g)
+      → Starts L (mergeOf L a b old) old (λ (g : ℕ). M g + N g)
   merge-keeps A C a b old M N ka kb h = go (sizeOf (length old)) refl
     where
       -- 1 where the target's length is wrong, 2 where the lengths differ
@@ -245,14 +259,14 @@ module _ (L : Layout) (fits : Fits64 L) where
       differ D e n = unfold mergeOf in rw (ka .good .size, kb .good .size, e, n) refl
 
       sizes : (D : ℕ) → sizeOf (length old) ≡ some D → (t u : Bool) → eqb A C ≡ t → eqb A D ≡ u
-          → Keeps L (Option·getD (sizeOf (length old)) 0) (written (mergeOf L a b old) old) (λ (g : ℕ). M g + N g)
+          → Starts L (mergeOf L a b old) old (λ (g : ℕ). M g + N g)
       sizes D e true true p q =
           let r : sizeOf (length old) ≡ some A = rw (eqb-true A D q) e in
           rw r (merge-same A a b old M N ka (rw (eqb-true A C p) kb) r h)
       sizes D e true false p q = absurd (omega (arith, rw (differ D e (rw (p, q) refl)) at h))
       sizes D e false u p q = absurd (omega (arith, rw (differ D e (rw p refl)) at h))
 
-      go : (o : Option ℕ) → sizeOf (length old) ≡ o → Keeps L (Option·getD (sizeOf (length old)) 0) (written (mergeOf L a b old) old) (λ (g : ℕ). M g + N g)
+      go : (o : Option ℕ) → sizeOf (length old) ≡ o → Starts L (mergeOf L a b old) old (λ (g : ℕ). M g + N g)
       go none e = absurd (omega (arith, rw (wrong e) at h))
       go (some D) e = sizes D e (eqb A C) (eqb A D) refl refl
 
@@ -261,7 +275,8 @@ module _ (L : Layout) (fits : Fits64 L) where
   pub keeps : (h : History) → Started L h → Keeps L (blocks h) (bytesAfter L h) (ledger L h)
   unfolding blocks bytesAfter ledger
   keeps (fresh old) s = fresh-keeps old s
-  keeps (merge a b old) s = merge-keeps (blocks a) (blocks b) (bytesAfter L a) (bytesAfter L b) old (ledger L a) (ledger L b) (keeps a (s .0)) (keeps b (s .1)) (s .2)
+  keeps (merge a b old) s =
+      merge-keeps (blocks a) (blocks b) (bytesAfter L a) (bytesAfter L b) old (ledger L a) (ledger L b) (keeps a (s .0)) (keeps b (s .1)) (s .2)
   keeps (followed h c) s = call-keeps L fits (blocks h) (bytesAfter L h) (ledger L h) (keeps h (s .0)) c (s .1)
 
   call-due : (h : History) → Started L h → (c : Call) → Fits c → numberOf L (bytesAfter L h) c ≡ due L h c

@@ -47,8 +47,8 @@ ledger-kept L h (page s room) n g = refl
 
 module _ (L : Layout) (fits : Fits64 L) where
   -- an accepted page from s gives the segment up to the next bucket
-  page-segment : (h : History) (N : ℕ → ℕ) (s room : ℕ) (r : Run) → Started L h → ((g : ℕ) → ledger L h g ≡ N g) → pageOf L (bytesAfter L h) s room ≡ accepted r
-      → (s ≤ r .next) × Segment N (s * keys L) (r .next * keys L) (r .entries)
+  page-segment : (h : History) (N : ℕ → ℕ) (s room : ℕ) (r : Run) → Started L h → ((g : ℕ) → ledger L h g ≡ N g)
+      → pageOf L (bytesAfter L h) s room ≡ accepted r → (s ≤ r .next) × Segment N (s * keys L) (r .next * keys L) (r .entries)
   page-segment h N s room r st same e =
       go (page-good L (blocks h) (bytesAfter L h) (keep .good) N (λ f x l k. sym (same _) ∙ keep .says f x l k) s room)
     where
@@ -74,7 +74,8 @@ module _ (L : Layout) (fits : Fits64 L) where
       let p = page-segment h N s room r (st .0) (before .same) e in
       record {
         same = λ g. ledger-kept L h (page s room) (λ a. a) g ∙ before .same g;
-        segment = segment-append N 0 (s * keys L) (r .next * keys L) gs (r .entries) (omega arith) (mul-le-mul-right (keys L) (p .0)) (before .segment) (p .1);
+        segment = segment-append N 0 (s * keys L) (r .next * keys L) gs (r .entries)
+            (omega arith) (mul-le-mul-right (keys L) (p .0)) (before .segment) (p .1);
       }
   walk-so-far (meanwhile h N gs s c w n) st =
       let before = walk-so-far w (st .0) in

@@ -74,7 +74,8 @@ module _ (L : Layout) (B : ℕ) (img : List ℕ) (good : Good L B img) (f : ℕ)
           → (n : ℕ) × (countAt L B f x img ≡ accepted (record { reads = n; copies = total L B f x img }))
       go true true e l = (3, rw (good .front f h, e, l, back-read true, back-read false) (gives 3 _ _ (omega arith)))
       go true false e l =
-          (1, rw (good .front f h, e, l) (gives 1 _ _ (omega (arith, over-none x (λ a b. omega (arith, leb-false (largest (frontView L B f img)) x l))))))
+          let less : x < largest (frontView L B f img) = leb-false _ _ l in
+          (1, rw (good .front f h, e, l) (gives 1 _ _ (omega (arith, over-none x (λ a b. omega arith)))))
       go false b e l = (1, rw (good .front f h, e) (gives 1 _ _ (omega (arith, over-none x (λ a b. eqb-false _ _ e a)))))
 
   -- those in front, and those in the backyard
@@ -83,11 +84,13 @@ module _ (L : Layout) (B : ℕ) (img : List ℕ) (good : Good L B img) (f : ℕ)
       omega (arith, sum-plus (λ (y : ℕ). copies y (frontView L B f img)) (λ (y : ℕ). over L B f y img) 0 x, sum-copies x (frontView L B f img))
 
   -- past a full front bucket there are at least its members
-  smaller-past : (x : ℕ) → 0 < L .frontSlots → length (frontView L B f img) ≡ L .frontSlots → largest (frontView L B f img) < x → L .frontSlots ≤ smallerAt L B f x img
+  smaller-past : (x : ℕ) → 0 < L .frontSlots → length (frontView L B f img) ≡ L .frontSlots → largest (frontView L B f img) < x
+      → L .frontSlots ≤ smallerAt L B f x img
   smaller-past x p e l = omega (arith, smaller-split x, below-all x (frontView L B f img) (good .frontGood f h .order) (omega arith) l)
 
   -- elsewhere there are fewer
-  smaller-within : (x : ℕ) → 0 < L .frontSlots → (length (frontView L B f img) ≡ L .frontSlots → x ≤ largest (frontView L B f img)) → smallerAt L B f x img < L .frontSlots
+  smaller-within : (x : ℕ) → 0 < L .frontSlots → (length (frontView L B f img) ≡ L .frontSlots → x ≤ largest (frontView L B f img))
+      → smallerAt L B f x img < L .frontSlots
   smaller-within x p e = go (eqb (length (frontView L B f img)) (L .frontSlots)) refl
     where
       none : sum (λ (y : ℕ). over L B f y img) 0 x ≡ 0
@@ -117,20 +120,23 @@ module _ (L : Layout) (B : ℕ) (img : List ℕ) (good : Good L B img) (f : ℕ)
       in-second z e l y (inr c) = (
         3,
         second (below (x * 16 + secondCrumb f) (backView L B (secondBucket B f) img)),
-        rw (good .front f h, slotOf-none x xs z, eq-eqb _ _ e, lt-ltb _ _ l, back-read true, slotOf-none _ _ y, back-read false, slotOf-some _ _ (order false) c) refl,
+        rw (good .front f h, slotOf-none x xs z, eq-eqb _ _ e, lt-ltb _ _ l, back-read true, slotOf-none _ _ y, back-read false)
+            (rw (slotOf-some _ _ (order false) c) refl),
         both-hold (somewhere _ refl) (omega (arith, c)),
         both-hold (omega arith) (smaller-past x pos e l),
       )
       in-second z e l y (inl c) = (
         3,
         nowhere,
-        rw (good .front f h, slotOf-none x xs z, eq-eqb _ _ e, lt-ltb _ _ l, back-read true, slotOf-none _ _ y, back-read false, slotOf-none _ _ c) refl,
+        rw (good .front f h, slotOf-none x xs z, eq-eqb _ _ e, lt-ltb _ _ l, back-read true, slotOf-none _ _ y, back-read false)
+            (rw (slotOf-none _ _ c) refl),
         both-fail (λ n. n refl) (λ p. omega (arith, z, y, c)),
         both-hold (omega arith) (smaller-past x pos e l),
       )
 
       -- past a full front bucket: the first bag
-      in-first : copies x xs ≡ 0 → length xs ≡ L .frontSlots → largest xs < x → (part L B true f x img ≡ 0) ⊎ (0 < part L B true f x img) → Tells L B f x img
+      in-first : copies x xs ≡ 0 → length xs ≡ L .frontSlots → largest xs < x → (part L B true f x img ≡ 0) ⊎ (0 < part L B true f x img)
+          → Tells L B f x img
       in-first z e l (inr c) = (
         2,
         first (below (x * 16 + firstCrumb f) (backView L B (firstBucket f) img)),

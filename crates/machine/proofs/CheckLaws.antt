@@ -45,19 +45,22 @@ module _ (L : Layout) (B : ℕ) (img : List ℕ) (good : Good L B img) where
       whole : y / 16 * 16 + y % 16 ≡ y
       whole = omega arith
 
-  member-in-turn : (j y : ℕ) (o : Option ℕ) → 0 < copies y (backView L B j img) → T (isSome o) → home B j (y % 16) ≡ o → homeInTurn L o (y / 16) img ≡ true
+  member-in-turn : (j y : ℕ) (o : Option ℕ) → 0 < copies y (backView L B j img) → T (isSome o) → home B j (y % 16) ≡ o
+      → homeInTurn L o (y / 16) img ≡ true
   member-in-turn j y none c s e = absurd s
   member-in-turn j y (some f) c s e =
       let l : f < fronts B = home-lt B j (y % 16) f (omega arith) e in
       let m = good .turn f (y / 16) l (member-over j y f c e) in
       rw (good .front f l, eq-eqb _ _ (m .0), le-leb _ _ (m .1)) refl
 
-  all-in-turn : (j : ℕ) (ys : List ℕ) → T (valid B j ys) → ((y : ℕ) → 0 < copies y ys → 0 < copies y (backView L B j img)) → allInTurn L B j img ys ≡ true
+  all-in-turn : (j : ℕ) (ys : List ℕ) → T (valid B j ys) → ((y : ℕ) → 0 < copies y ys → 0 < copies y (backView L B j img))
+      → allInTurn L B j img ys ≡ true
   unfolding allInTurn valid
   all-in-turn j [] v c = refl
   all-in-turn j (y ∷ ys) v c =
+      let here : 0 < copies y (y ∷ ys) = omega (arith, copies-cons y y ys, hit-same y) in
       rw (
-        member-in-turn j y (home B j (y % 16)) (c y (omega (arith, copies-cons y y ys, hit-same y))) (and-l (isSome (home B j (y % 16))) (valid B j ys) v) refl,
+        member-in-turn j y (home B j (y % 16)) (c y here) (and-l (isSome (home B j (y % 16))) (valid B j ys) v) refl,
         all-in-turn j ys (and-r (isSome (home B j (y % 16))) (valid B j ys) v) (λ z d. c z (omega (arith, copies-cons z y ys))),
       )
       refl

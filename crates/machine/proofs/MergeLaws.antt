@@ -1,6 +1,7 @@
 -- Fresh and merge: the empty image is good and holds nothing; a merge of two good images is good and holds the members of both,
 -- or is refused with 4. Main results: `empty-good`, `empty-total`, `merge-good`.
 use mathlib.Core.Path.{_≡_, refl, sym, _∙_}
+use mathlib.Core.Logic.{_⊎_, inl, inr}
 use Prim.Native.Nat.{ℕ, zero, suc, _+_, _≤_, _<_}
 use mathlib.Core.Bool.{Bool, true, false}
 use mathlib.Core.List.{List, [], _∷_}
@@ -14,9 +15,9 @@ use Rattle.multiset.proofs.MultisetLaws.{copies-cons}
 use Rattle.crumbmap.specs.Layouts.{Layout, keys, fronts, backyards}
 use Rattle.crumbmap.specs.CrumbMap.{bucketOf}
 use Rattle.crumbmap.proofs.CrumbMapLaws.{bucketOf-lt}
-use Rattle.minifilter.specs.Buckets.{Fits64, valid, FrontList, BackList}
+use Rattle.minifilter.specs.Buckets.{Fits64, valid, frontBytes, backBytes, FrontList, BackList}
 use Rattle.minifilter.proofs.BucketLaws.{length-frontBytes, length-backBytes, frontMembers-frontBytes, backMembers-backBytes}
-use Rattle.machine.specs.Results.{accepted, refused}
+use Rattle.machine.specs.Results.{accepted, refused, number}
 use Rattle.machine.specs.Images.{frontAt, backAt, emptyImage}
 use Rattle.machine.specs.Machine.{insertAt, membersAt}
 use Rattle.machine.specs.Merges.{insertAll, mergeFrom, mergeSized}
@@ -61,13 +62,19 @@ module _ (L : Layout) (fits : Fits64 L) where
   unfolding ascending valid
   no-back B j = record { order = tt; range = tt; room = omega arith; crumbs = tt }
 
+  front-long : length (frontBytes L []) ≡ 64
+  front-long = length-frontBytes L fits [] (omega arith)
+
+  back-long : length (backBytes L []) ≡ 64
+  back-long = length-backBytes L fits [] (omega arith)
+
   front-empty : (B f : ℕ) → f < fronts B → frontAt L f (emptyImage L B) ≡ accepted []
   unfolding frontAt
-  front-empty B f h = rw (bucketAt-empty-front L B f (length-frontBytes L fits [] (omega arith)) (length-backBytes L fits [] (omega arith)) h, frontMembers-frontBytes L fits [] no-front) refl
+  front-empty B f h = rw (bucketAt-empty-front L B f front-long back-long h, frontMembers-frontBytes L fits [] no-front) refl
 
   back-empty : (B j : ℕ) → j < backyards B → backAt L B j (emptyImage L B) ≡ accepted []
   unfolding backAt
-  back-empty B j h = rw (bucketAt-empty-back L B j (length-frontBytes L fits [] (omega arith)) (length-backBytes L fits [] (omega arith)) h, backMembers-backBytes L fits B j [] (no-back B j)) refl
+  back-empty B j h = rw (bucketAt-empty-back L B j front-long back-long h, backMembers-backBytes L fits B j [] (no-back B j)) refl
 
   frontView-empty : (B f : ℕ) → f < fronts B → frontView L B f (emptyImage L B) ≡ []
   unfolding frontView
@@ -90,7 +97,7 @@ module _ (L : Layout) (fits : Fits64 L) where
   pub empty-good : (B : ℕ) → 0 < B → B ≤ 65536 → Good L B (emptyImage L B)
   empty-good B p h =
       record {
-        size = rw (length-empty L B (length-frontBytes L fits [] (omega arith)) (length-backBytes L fits [] (omega arith))) (sizeOf-lengthOf B p h);
+        size = rw (length-empty L B front-long back-long) (sizeOf-lengthOf B p h);
         front = λ f l. rw (frontView-empty B f l) (front-empty B f l);
         frontGood = λ f l. rw (frontView-empty B f l) no-front;
         back = λ j l. rw (backView-empty B j l) (back-empty B j l);
@@ -127,7 +134,8 @@ module _ (L : Layout) (fits : Fits64 L) where
       → More L B f xs img i → More L B f ys i j → Both L B (suc f) a b j now → Both L B f a b img now
   both-next B f a b xs ys img i j now h ma mb p q r =
       record {
-        before = λ e y l. r .before e y (omega arith) ∙ q .elsewhere e y (omega arith) (λ n. omega arith) ∙ p .elsewhere e y (omega arith) (λ n. omega arith);
+        before = λ e y l.
+            r .before e y (omega arith) ∙ q .elsewhere e y (omega arith) (λ n. omega arith) ∙ p .elsewhere e y (omega arith) (λ n. omega arith);
         from = λ e y l k. at e y l k (eqb e f) refl;
       }
     where
@@ -138,7 +146,8 @@ module _ (L : Layout) (fits : Fits64 L) where
           let n : e ≡ f → ⊥ = eqb-false e f t in
           omega (arith, r .from e y (lt-of-le-ne l (λ o. n (sym o))) k, q .elsewhere e y k n, p .elsewhere e y k n)
 
-  mergeFrom-keeps : (B : ℕ) (a b : List ℕ) → Good L B a → Good L B b → (n f : ℕ) (img : List ℕ) → f + n ≡ fronts B → Good L B img → Merged L B n f a b img
+  mergeFrom-keeps : (B : ℕ) (a b : List ℕ) → Good L B a → Good L B b → (n f : ℕ) (img : List ℕ) → f + n ≡ fronts B → Good L B img
+      → Merged L B n f a b img
   unfolding mergeFrom
   mergeFrom-keeps B a b ga gb zero f img h good =
       joined img refl good (record { before = λ e y l. refl; from = λ e y l k. absurd (omega arith) })
@@ -178,3 +187,11 @@ module _ (L : Layout) (fits : Fits64 L) where
       go (joined now e g m) =
           whole now (rw (check-good L B a ga, check-good L B b gb, e) refl) g
           (λ f x l. omega (arith, m .from f x (omega arith) l, empty-total B f x l))
+
+  -- the number of a merge of two good images
+  pub merge-number : (B : ℕ) (a b : List ℕ) → Good L B a → Good L B b → (number (mergeSized L B a b) ≡ 0) ⊎ (number (mergeSized L B a b) ≡ 4)
+  merge-number B a b ga gb = go (merge-good B a b ga gb)
+    where
+      go : MergedWhole L B a b → (number (mergeSized L B a b) ≡ 0) ⊎ (number (mergeSized L B a b) ≡ 4)
+      go (whole now e good m) = inl (rw e refl)
+      go (no-space e) = inr (rw e refl)

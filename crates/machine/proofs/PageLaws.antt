@@ -55,6 +55,9 @@ module _ (L : Layout) (B : ℕ) (img : List ℕ) (good : Good L B img) where
       xs : List ℕ
       xs = frontView L B f img
 
+      others : List ℕ
+      others = overs L B f img
+
       go : (b : Bool) → ltb (length xs) (L .frontSlots) ≡ b → (xs : List ℕ) × (membersAt L B f img ≡ accepted xs) × Members L B f img xs
       go true e = (
         xs,
@@ -66,12 +69,12 @@ module _ (L : Layout) (B : ℕ) (img : List ℕ) (good : Good L B img) where
         },
       )
       go false e = (
-        addedAll xs (overs L B f img),
+        addedAll xs others,
         rw (good .front f h, e, read-held L B f img good h true, read-held L B f img good h false) refl,
         record {
-          order = ascending-addedAll xs (overs L B f img) (ascending-overs L B f img good h);
-          range = below-addedAll (keys L) xs (overs L B f img) (good .frontGood f h .range) (below-overs L B f img good h);
-          each = λ y. omega (arith, copies-addedAll y xs (overs L B f img), copies-overs L B f img y);
+          order = ascending-addedAll xs others (ascending-overs L B f img good h);
+          range = below-addedAll (keys L) xs others (good .frontGood f h .range) (below-overs L B f img good h);
+          each = λ y. omega (arith, copies-addedAll y xs others, copies-overs L B f img y);
         },
       )
 
@@ -141,13 +144,17 @@ module _ (L : Layout) (B : ℕ) (img : List ℕ) (good : Good L B img) where
         ends : s ≤ fronts B → (r : Run) → runFrom L B (fronts B - s) s room img ≡ accepted r → Ran L N (fronts B - s) s room r
             → (a b : Bool) → eqb (r .next) s ≡ a → ltb s (fronts B) ≡ b → Paged L B N s room img
         ends l r e m true true p q =
-            unfit (rw (le-ltb (fronts B) s l, e, p, q) refl) (ltb-true s (fronts B) q)
-            (by-contra (suc room) (sum N (fingerprint L s 0) (keys L)) (λ o. omega (arith, eqb-true (r .next) s p, m .moves (omega (arith, ltb-true s (fronts B) q)) (omega arith))))
+            let before : s < fronts B = ltb-true _ _ q in
+            let stayed : r .next ≡ s = eqb-true _ _ p in
+            unfit (rw (le-ltb (fronts B) s l, e, p, q) refl) before
+            (by-contra (suc room) (sum N (fingerprint L s 0) (keys L)) (λ o. omega (arith, m .moves (omega arith) (omega arith))))
         ends l r e m true false p q =
-            listed r (rw (le-ltb (fronts B) s l, e, p, q) refl) l (λ o. absurd (omega (arith, ltb-false s (fronts B) q))) (m .start) (omega (arith, m .stop)) (m .segment)
+            let end : fronts B ≤ s = ltb-false _ _ q in
+            listed r (rw (le-ltb (fronts B) s l, e, p, q) refl) l (λ o. absurd (omega arith)) (m .start) (omega (arith, m .stop)) (m .segment)
         ends l r e m false b p q =
             listed r (rw (le-ltb (fronts B) s l, e, p) refl) l
-            (λ o. by-contra (sum N (fingerprint L s 0) (keys L)) room (λ k. eqb-false (r .next) s p (m .stays k))) (m .start) (omega (arith, m .stop)) (m .segment)
+            (λ o. by-contra (sum N (fingerprint L s 0) (keys L)) room (λ k. eqb-false (r .next) s p (m .stays k)))
+            (m .start) (omega (arith, m .stop)) (m .segment)
 
         go : (b : Bool) → ltb (fronts B) s ≡ b → Paged L B N s room img
         go true e = beyond (rw e refl) (ltb-true _ _ e)

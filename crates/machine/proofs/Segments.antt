@@ -36,7 +36,8 @@ ascending-tail : (x : ℕ) (ys : List ℕ) → T (ascending (x ∷ ys)) → T (a
 unfolding ascending
 ascending-tail x ys a = and-r (atLeast x ys) (ascending ys) a
 
-ascending-append : (xs ys : List ℕ) → T (ascending xs) → T (ascending ys) → ((x y : ℕ) → 0 < copies x xs → 0 < copies y ys → x ≤ y) → T (ascending (xs ++ ys))
+ascending-append : (xs ys : List ℕ) → T (ascending xs) → T (ascending ys) → ((x y : ℕ) → 0 < copies x xs → 0 < copies y ys → x ≤ y)
+    → T (ascending (xs ++ ys))
 ascending-append [] ys a b h = b
 ascending-append (x ∷ xs) ys a b h =
     ascending-cons x (xs ++ ys) (λ y c. first y c (zero-or-more (copies y xs)))
@@ -52,7 +53,8 @@ pub segment-none : (N : ℕ → ℕ) (lo : ℕ) → Segment N lo lo []
 unfolding copies ascending
 segment-none N lo = record { order = tt; inside = λ g a b. absurd (omega arith); before = λ g a. refl; past = λ g a. refl }
 
-pub segment-append : (N : ℕ → ℕ) (lo mid hi : ℕ) (gs hs : List ℕ) → lo ≤ mid → mid ≤ hi → Segment N lo mid gs → Segment N mid hi hs → Segment N lo hi (gs ++ hs)
+pub segment-append : (N : ℕ → ℕ) (lo mid hi : ℕ) (gs hs : List ℕ) → lo ≤ mid → mid ≤ hi → Segment N lo mid gs → Segment N mid hi hs
+    → Segment N lo hi (gs ++ hs)
 segment-append N lo mid hi gs hs a b p q =
     record {
       order = ascending-append gs hs (p .order) (q .order) apart;
