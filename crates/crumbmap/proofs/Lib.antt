@@ -1,4 +1,4 @@
--- Laws of fingerprints and of the map.
+-- Laws of fingerprints, of the map and of the valid crumbs' bits.
 pub mod FingerprintLaws
 pub mod CrumbMapLaws
 pub mod MarkLaws

@@ -1,11 +1,11 @@
 -- The element at a place of a list of digits that is grouped into numbers, or of numbers that are spread into digits.
 -- Main results: `grouped-at`, `spread-at`, and of a bucket's bytes `tag-at`, `crumb-at`.
-use mathlib.Core.Path.{_≡_, refl, sym, _∙_, ap}
-use Prim.Native.Nat.{ℕ, zero, suc, _+_, _*_, _/_, _%_, _^_, _<_, _≤_}
+use mathlib.Core.Path.{_≡_, refl, sym, _∙_}
+use Prim.Native.Nat.{ℕ, zero, suc, _+_, _*_, _/_, _%_, _^_, _<_}
 use native.Mathlib.Nat.{suc-mul, zero-mul, zero-add, add-comm, add-zero, div-one}
 use native.Mathlib.Numerals.{add-one}
 use native.Mathlib.Omega.{arith}
-use mathlib.Core.List.{List, [], _∷_, _++_}
+use mathlib.Core.List.{List, [], _∷_}
 use lib.ListN.{length, take, drop, getD, length-drop, List·getD-append}
 use lib.Seq.{drop-cons, drop-drop, getD-drop, getD-append-add}
 use mir.Syntax.{w8}
@@ -19,7 +19,8 @@ pub below-bytes : (b : List ℕ) → ((i : ℕ) → Fits w8 (getD b i 0)) → Be
 below-bytes [] h = tt
 below-bytes (x ∷ xs) h = (h 0 .fits, below-bytes xs (λ i. h (suc i)))
 
-pub grouped-at : (base size n : ℕ) (ds : List ℕ) (slot : ℕ) → slot < n → getD (grouped base size n ds) slot 0 ≡ value base (take size (drop (slot * size) ds))
+pub grouped-at : (base size n : ℕ) (ds : List ℕ) (slot : ℕ) → slot < n
+    → getD (grouped base size n ds) slot 0 ≡ value base (take size (drop (slot * size) ds))
 unfolding grouped
 grouped-at base size zero ds slot h = absurd (omega arith)
 grouped-at base size (suc n) ds zero h = rw (zero-mul size)

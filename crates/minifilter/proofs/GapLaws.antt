@@ -1,14 +1,14 @@
--- The zeros of a word as numbers: the zero of slot s over mini-bucket m stands at bit m + s, and the zeros past the members read as one more mini-bucket.
+-- The zeros of a word: that of slot s over mini-bucket m stands at bit m + s, and the zeros past the members read as one more mini-bucket.
 -- Main results: `gaps-word` (a word's complement), and of the zeros from slot s on `gap-place` (the lowest), `gap-next` (all but it).
-use mathlib.Core.Path.{_≡_, refl, sym, _∙_, ap}
+use mathlib.Core.Path.{_≡_, sym, _∙_, ap}
 use Prim.Native.Nat.{ℕ, zero, suc, _+_, _*_, _-_, _/_, _%_, _^_, _≤_, _<_}
-use native.Mathlib.Nat.{add-suc, suc-add, add-zero, zero-add, mul-one, zero-mul, one-mul, mul-assoc, mul-comm, mul-add, add-mul, pow-suc, mod-self, add-assoc}
+use native.Mathlib.Nat.{add-suc, suc-add, add-zero, zero-add, mul-one, zero-mul, one-mul, mul-assoc, mul-comm, mul-add, add-mul, pow-suc, mod-self}
 use native.Mathlib.Omega.{arith}
 use mathlib.Core.List.{List, [], _∷_, _++_}
-use lib.ListN.{length, take, drop, getD, replicate}
+use lib.ListN.{length, drop, getD, replicate}
 use lib.Seq.{drop-cons}
 use lib.Pow.{pow-pos, pow-add, pow-lt}
-use lib.Count.{trailingZeros, under}
+use lib.Count.{trailingZeros}
 use lib.Bits.{bitAnd, and-block, and-self, and-mask, block-half, block-odd, shifted-half, shifted-even}
 use Rattle.minifilter.proofs.WordLaws.{Run, Coded}
 
@@ -101,7 +101,8 @@ run-drop lo hi (x ∷ xs) (suc s) r h = run-drop x hi xs s (r .2) (omega arith)
 
 module _ (hi bits : ℕ) (ms : List ℕ) (run : Run 0 hi ms) (fits : hi + length ms ≤ suc bits) (s : ℕ) (h : s < length ms) where
   -- the lowest zero and those above it
-  split : (a : ℕ) × (gaps (suc s) (drop (suc s) ms) ≡ a * 2 ^ suc (getD ms s 0 + s)) × (gaps s (drop s ms) ≡ a * 2 ^ suc (getD ms s 0 + s) + 2 ^ (getD ms s 0 + s))
+  split : (a : ℕ) × (gaps (suc s) (drop (suc s) ms) ≡ a * 2 ^ suc (getD ms s 0 + s))
+      × (gaps s (drop s ms) ≡ a * 2 ^ suc (getD ms s 0 + s) + 2 ^ (getD ms s 0 + s))
   unfolding gaps
   split =
       let t = gaps-high (getD ms s 0) hi (suc s) (drop (suc s) ms) (run-drop 0 hi ms s run h .1) in

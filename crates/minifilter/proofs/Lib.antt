@@ -5,4 +5,5 @@ pub mod SlotBytes
 pub mod BucketLaws
 pub mod ElementLaws
 pub mod GapLaws
+pub mod PassLaws
 pub mod ReadLaws

@@ -1,73 +1,39 @@
--- What the reader's one pass over all slots says of a bucket's members.
--- Main results: `slotMinis-run` and `slotMembers-at` (what the pass meets), `reading-slots` (its answer), `reading-front`, `reading-back`.
+-- What the reader answers: the pass over all slots says that the members ascend and the others are 0; what front and backyard buckets ask besides.
+-- Main results: `order-all`, `reading-slots`, `reading-front`, `reading-back`, `marked-valid`.
 use mathlib.Core.Path.{_≡_, refl, sym, _∙_, ap}
-use Prim.Native.Nat.{ℕ, zero, suc, _+_, _*_, _-_, _/_, _%_, _^_, _≤_, _<_, min, zero-le}
-use native.Mathlib.Nat.{le-refl, zero-mul, suc-mul}
+use Prim.Native.Nat.{ℕ, zero, suc, _+_, _*_, _-_, _/_, _%_, _^_, _≤_, _<_, zero-le}
+use native.Mathlib.Nat.{zero-mul, suc-mul}
 use native.Mathlib.Omega.{arith}
-use mathlib.Core.Bool.{Bool, true, false, cond, _&&_}
+use mathlib.Core.Bool.{Bool, true, false, _&&_, and-true, and-false, and-assoc, and-comm}
 use mathlib.Core.List.{List, [], _∷_, _++_}
 use mathlib.Core.Option.{Option, none, some, bind}
-use lib.ListN.{length, take, drop, getD, replicate, length-append, length-replicate, length-drop, drop-of-length-le}
+use lib.ListN.{length, take, drop, getD, replicate, length-drop, drop-of-length-le}
 use lib.Seq.{drop-cons, drop-nil, drop-drop, drop-append-add}
 use lib.Count.{ones}
-use lib.Dec.{leb, eqb, eqb·suc-zero, leb·zero}
+use lib.Dec.{leb, eqb, eqb·suc-zero}
 use borrow.Author.Tests.{lt-leb, le-leb, leb-true, leb-false, eqb-true, eq-eqb}
 use Rattle.multiset.specs.Multisets.{ascending, atLeast, allZero, Below}
 use Rattle.multiset.specs.Digits.{digits, value, spread, grouped, joined}
-use Rattle.multiset.proofs.DigitLaws.{length-digits, length-spread, length-grouped, length-joined, below-spread, below-grouped, below-replicate, below-drop}
+use Rattle.multiset.proofs.DigitLaws.{length-digits, length-spread, length-grouped, length-joined, below-grouped, below-drop}
 use Rattle.crumbmap.specs.Layouts.{layout1}
 use Rattle.crumbmap.specs.CrumbMap.{home}
 use Rattle.crumbmap.specs.Marks.{Marks, bitOf}
 use Rattle.crumbmap.proofs.MarkLaws.{ones-in}
 use Rattle.minifilter.specs.Words.{minisFrom}
 use Rattle.minifilter.specs.Buckets.{given, isSome, valid, slotKeys, frontMembers, backMembers}
-use Rattle.minifilter.specs.Readings.{readingOf, minisOf, listOf}
+use Rattle.minifilter.specs.Readings.{readingOf, minisOf}
 use Rattle.minifilter.specs.Slots.{slotCount, slotCrumbs, slotMinis, slotMembers, inOrder, slotList, marked}
 use Rattle.minifilter.specs.declared.Reading.{Reading}
 use Rattle.minifilter.specs.declared.Reading.the-variants.{Members, Unsound}
-use Rattle.minifilter.proofs.WordLaws.{Run, Coded, minis-ones, coded-minis, coded-run, minis-none}
-use Rattle.minifilter.proofs.ElementLaws.{grouped-at}
-use Rattle.minifilter.proofs.GapLaws.{gaps, gaps-word}
-
--- ---- truth values
-
-and-false : (a : Bool) → a && false ≡ false
-and-false true = refl
-and-false false = refl
-
-and-true : (a : Bool) → a && true ≡ a
-and-true true = refl
-and-true false = refl
-
-and-turn : (a b c : Bool) → (a && b) && c ≡ a && (c && b)
-and-turn true true c = sym (and-true c)
-and-turn true false c = sym (and-false c)
-and-turn false b c = refl
-
-and-assoc : (a b c : Bool) → (a && b) && c ≡ a && (b && c)
-and-assoc true b c = refl
-and-assoc false b c = refl
-
--- ---- joined lists
-
-pub joined-at : (k : ℕ) (ms rs : List ℕ) (s : ℕ) → s < length ms → s < length rs → getD (joined k ms rs) s 0 ≡ getD ms s 0 * k + getD rs s 0
-unfolding joined
-joined-at k [] rs s h l = absurd (omega arith)
-joined-at k (m ∷ ms) [] s h l = absurd (omega arith)
-joined-at k (m ∷ ms) (r ∷ rs) zero h l = refl
-joined-at k (m ∷ ms) (r ∷ rs) (suc s) h l = joined-at k ms rs s (omega arith) (omega arith)
-
-length-joined-min : (k : ℕ) (ms rs : List ℕ) → length (joined k ms rs) ≡ min (length ms) (length rs)
-unfolding joined
-length-joined-min k [] rs = omega arith
-length-joined-min k (m ∷ ms) [] = omega arith
-length-joined-min k (m ∷ ms) (r ∷ rs) = omega (arith, length-joined-min k ms rs)
+use Rattle.minifilter.proofs.WordLaws.{minis-none}
+use Rattle.minifilter.proofs.PassLaws.{length-joined-min, ascending-zero, run-below, minis-word, minisOf-run, slotCount-le, length-slotCrumbs, below-slotCrumbs}
 
 -- ---- the slots in use and the others
 
 -- past the members: no slot is above the end exactly where tags and crumbs are 0
 order-rest : (k p : ℕ) (rs cs : List ℕ) → length rs ≤ p → length rs ≤ length cs
-    → ascending (k ∷ (joined 16 (joined 65536 (replicate p 36) rs) cs ++ (37748736 ∷ []))) ≡ leb k 37748736 && (allZero rs && allZero (take (length rs) cs))
+    → ascending (k ∷ (joined 16 (joined 65536 (replicate p 36) rs) cs ++ (37748736 ∷ [])))
+    ≡ leb k 37748736 && (allZero rs && allZero (take (length rs) cs))
 unfolding ascending atLeast allZero joined
 order-rest k zero [] cs l h = refl
 order-rest k (suc p) [] cs l h = refl
@@ -98,102 +64,6 @@ order-all k p (m ∷ ms) (r ∷ rs) (c ∷ cs) a bm br bc l h g =
     (allZero (drop (length ms) rs) && allZero (drop (length ms) (take (length rs) cs))))
 order-all k p (m ∷ ms) [] cs a bm br bc l h g = absurd (omega arith)
 order-all k p (m ∷ ms) (r ∷ rs) [] a bm br bc l h g = absurd (omega arith)
-
-ascending-zero : (l : List ℕ) → ascending (0 ∷ l) ≡ ascending l
-unfolding ascending atLeast
-ascending-zero [] = refl
-ascending-zero (x ∷ l) = rw (leb·zero x)
-
--- ---- the word's zeros
-
-run-padded : (lo hi p : ℕ) (ms : List ℕ) → lo ≤ hi → Run lo hi ms → Run lo (suc hi) (ms ++ replicate p hi)
-run-padded lo hi zero [] h r = tt
-run-padded lo hi (suc p) [] h r = (h, le-refl (suc hi), run-padded hi hi p [] (le-refl hi) tt)
-run-padded lo hi p (m ∷ ms) h r = (r .0, omega arith, run-padded m hi p ms (omega arith) (r .2))
-
-run-below : (lo hi : ℕ) (ms : List ℕ) → Run lo hi ms → Below hi ms
-run-below lo hi [] r = tt
-run-below lo hi (m ∷ ms) r = (r .1, run-below m hi ms (r .2))
-
-module _ (w : ℕ) (small : w < 2 ^ 64) (full : ones w ≡ 36) where
-  minis-word : minisFrom 64 36 0 w ≡ some (minisOf w)
-  unfolding minisOf
-  minis-word = let t = minis-ones 64 36 0 w small full in rw (t .1)
-
-  coded-word : Coded 36 0 (minisOf w) w × (36 + length (minisOf w) ≤ 64)
-  coded-word = coded-minis 64 36 0 w (minisOf w) minis-word
-
-  minisOf-run : Run 0 36 (minisOf w)
-  minisOf-run = coded-run (coded-word .0)
-
-  pub length-slotMinis : length (slotMinis w) ≡ 28
-  unfolding slotMinis
-  length-slotMinis = rw (length-append, length-replicate) (omega (arith, coded-word .1))
-
-  pub slotMinis-run : Run 0 37 (slotMinis w)
-  unfolding slotMinis
-  slotMinis-run = run-padded 0 36 (28 - length (minisOf w)) (minisOf w) (omega arith) minisOf-run
-
-  pub slotMinis-gaps : gaps 0 (slotMinis w) + (1 + w) ≡ 2 ^ 64
-  unfolding slotMinis
-  slotMinis-gaps = gaps-word (28 - length (minisOf w)) 64 (coded-word .0) (omega (arith, coded-word .1))
-
--- ---- what the pass over the slots meets
-
-length-slotCrumbs : (crumbs : Bool) (b : List ℕ) → length b ≡ 64 → slotCount crumbs ≤ length (slotCrumbs crumbs b)
-length-slotCrumbs true b long = rw (length-spread 16 2 (drop 52 b), length-drop 52 b) (omega arith)
-length-slotCrumbs false b long = le-refl 28
-
-below-slotCrumbs : (crumbs : Bool) (b : List ℕ) → Below 16 (slotCrumbs crumbs b)
-below-slotCrumbs true b = below-spread 16 2 (drop 52 b) (omega arith)
-below-slotCrumbs false b = below-replicate 16 28 (omega arith)
-
-pub slotCount-le : (crumbs : Bool) → slotCount crumbs ≤ 28
-slotCount-le true = omega arith
-slotCount-le false = omega arith
-
-module _ (w : ℕ) (small : w < 2 ^ 64) (full : ones w ≡ 36) (crumbs : Bool) (slots : ℕ) (room : slots ≤ slotCount crumbs) (b : List ℕ) (long : length b ≡ 64) where
-  pub length-slotMembers : length (slotMembers crumbs slots w b) ≡ slots
-  unfolding slotMembers
-  length-slotMembers =
-      let l = length-slotMinis w small full in
-      rw (length-joined-min, length-joined-min, length-grouped, l) (omega (arith, slotCount-le crumbs, length-slotCrumbs crumbs b long))
-
-  pub slotMembers-at : (s : ℕ) → s < slots → getD (slotMembers crumbs slots w b) s 0
-      ≡ (getD (slotMinis w) s 0 * 65536 + getD (grouped 256 2 28 (drop 8 b)) s 0) * 16 + getD (slotCrumbs crumbs b) s 0
-  unfolding slotMembers
-  slotMembers-at s h =
-      let ds : List ℕ = drop 8 b in
-      let n = slotCount-le crumbs in
-      let g : getD (grouped 256 2 slots ds) s 0 ≡ getD (grouped 256 2 28 ds) s 0 =
-      grouped-at 256 2 slots ds s h ∙ sym (grouped-at 256 2 28 ds s (omega arith)) in
-      let l : s < length (slotMinis w) = rw (length-slotMinis w small full) (omega arith) in
-      let k : s < length (grouped 256 2 slots ds) = rw (length-grouped 256 2 slots ds) h in
-      joined-at 16 (joined 65536 (slotMinis w) (grouped 256 2 slots ds)) (slotCrumbs crumbs b) s (rw length-joined-min (omega arith))
-      (omega (arith, length-slotCrumbs crumbs b long))
-      ∙ rw (joined-at 65536 (slotMinis w) (grouped 256 2 slots ds) s l k, g)
-
--- ---- the pass itself: what it has still to say from slot s on
-
-unfoldable pub fromSlot : ℕ → ℕ → List ℕ → Bool
-fromSlot last s ks = ascending (last ∷ (drop s ks ++ (37748736 ∷ [])))
-
-pub pass-start : (ks : List ℕ) → ascending (ks ++ (37748736 ∷ [])) ≡ fromSlot 0 0 ks
-unfolding fromSlot
-pass-start ks = sym (ascending-zero (ks ++ (37748736 ∷ [])))
-
-module _ (last s : ℕ) (ks : List ℕ) (h : s < length ks) where
-  pub pass-stop : getD ks s 0 < last → fromSlot last s ks ≡ false
-  unfolding fromSlot ascending atLeast
-  pass-stop l = rw (drop-cons ks s 0 h, lt-leb last (getD ks s 0) l)
-
-  pub pass-on : last ≤ getD ks s 0 → fromSlot last s ks ≡ fromSlot (getD ks s 0) (suc s) ks
-  unfolding fromSlot ascending atLeast
-  pass-on l = rw (drop-cons ks s 0 h, le-leb last (getD ks s 0) l)
-
-pub pass-end : (last s : ℕ) (ks : List ℕ) → length ks ≤ s → fromSlot last s ks ≡ leb last 37748736
-unfolding fromSlot ascending atLeast
-pass-end last s ks h = rw (drop-of-length-le ks h) (and-true (leb last 37748736))
 
 -- ---- the reader's answers
 
@@ -256,10 +126,12 @@ module _ (w : ℕ) (crumbs : Bool) (slots : ℕ) (many : 21 ≤ slots) (room : s
         let g = length-grouped 256 2 slots ds in
         let d : length ds ≡ 56 = rw (length-drop 8 b, long) in
         simp (ascending-zero, g) at (order-all 0 (28 - length ms) ms (grouped 256 2 slots ds) (slotCrumbs crumbs b) zero-le
-        (run-below 0 36 ms (minisOf-run w small full)) (below-grouped 256 2 slots ds (below-drop 256 8 b bytes) (omega arith)) (below-slotCrumbs crumbs b)
+        (run-below 0 36 ms (minisOf-run w small full))
+        (below-grouped 256 2 slots ds (below-drop 256 8 b bytes) (omega arith)) (below-slotCrumbs crumbs b)
         (omega arith) (omega arith) (omega (arith, length-slotCrumbs crumbs b long)))
 
-    pub reading-slots : Below 256 b → length (minisOf w) ≤ slots → readingOf (slotList crumbs slots b) ≡ countIf (inOrder crumbs slots w b) (length (minisOf w))
+    pub reading-slots : Below 256 b → length (minisOf w) ≤ slots
+        → readingOf (slotList crumbs slots b) ≡ countIf (inOrder crumbs slots w b) (length (minisOf w))
     unfolding slotList bind given
     reading-slots bytes h =
         let n = slotCount-le crumbs in
@@ -275,10 +147,17 @@ module _ (w : ℕ) (crumbs : Bool) (slots : ℕ) (many : 21 ≤ slots) (room : s
         let used : Bool = allZero (drop (length ms) rs) in
         let rest : Bool = allZero (drop (length xs) (take slots cs)) in
         rw (slotKeys-layout1 slots b many (omega arith), ← word, minis-word w small full, le-leb (length ms) slots h)
-        (ap readingOf (bind-given used xs (λ (l : List ℕ). given (ascending (joined 16 l cs) && allZero (drop (length l) (take slots cs))) (some (joined 16 l cs)))
+        (ap readingOf (bind-given used xs (λ (l : List ℕ).
+        given (ascending (joined 16 l cs) && allZero (drop (length l) (take slots cs))) (some (joined 16 l cs)))
         ∙ given-and used (ascending ys && rest) (some ys))
         ∙ reading-given ((ascending ys && rest) && used) ys
-        ∙ rw (ly, lx, inOrder-all bytes h) (ap (λ (t : Bool). countIf t (length ms)) (and-turn (ascending ys) (allZero (drop (length ms) (take slots cs))) used)))
+        ∙ rw (
+          ly,
+          lx,
+          inOrder-all bytes h,
+          and-assoc (ascending ys) (allZero (drop (length ms) (take slots cs))) used,
+          and-comm (allZero (drop (length ms) (take slots cs))) used,
+        ))
 
 -- ---- front and backyard
 
@@ -295,9 +174,12 @@ slotKeys-short slots b xs l h e =
     inner true false ys k f = let z : _≡_ {A = ℕ} 0 1 = cc in absurd (omega arith)
     inner false q ys k f = let z : _≡_ {A = ℕ} 0 1 = cc in absurd (omega arith)
 
-    go : (o : Option (List ℕ)) → bind o (λ ms. given (leb (length ms) slots) (given (allZero (drop (length ms) rs)) (some (joined 65536 ms rs)))) ≡ some xs → length xs ≤ slots
+    go : (o : Option (List ℕ))
+        → bind o (λ ms. given (leb (length ms) slots) (given (allZero (drop (length ms) rs)) (some (joined 65536 ms rs)))) ≡ some xs → length xs ≤ slots
     go none f = let z : _≡_ {A = ℕ} 0 1 = cc in absurd (omega arith)
-    go (some ms) f = inner (leb (length ms) slots) (allZero (drop (length ms) rs)) (joined 65536 ms rs) (omega (arith, length-joined-min 65536 ms rs, length-grouped 256 2 slots (drop 8 b))) f
+    go (some ms) f =
+        inner (leb (length ms) slots) (allZero (drop (length ms) rs)) (joined 65536 ms rs)
+        (omega (arith, length-joined-min 65536 ms rs, length-grouped 256 2 slots (drop 8 b))) f
 
 -- crumbs that are 0 change no order
 leb-scaled : (x y : ℕ) → leb (x * 16 + 0) (y * 16 + 0) ≡ leb x y
@@ -345,7 +227,8 @@ allZero-split : (n k : ℕ) (cs : List ℕ) → n ≤ k → allZero (drop n cs) 
 unfolding allZero
 allZero-split zero zero cs h = refl
 allZero-split zero (suc k) [] h = refl
-allZero-split zero (suc k) (c ∷ cs) h = ap (λ (x : Bool). eqb c 0 && x) (allZero-split zero k cs zero-le) ∙ sym (and-assoc (eqb c 0) (allZero (take k cs)) (allZero (drop k cs)))
+allZero-split zero (suc k) (c ∷ cs) h =
+    ap (λ (x : Bool). eqb c 0 && x) (allZero-split zero k cs zero-le) ∙ sym (and-assoc (eqb c 0) (allZero (take k cs)) (allZero (drop k cs)))
 allZero-split (suc n) zero cs h = absurd (omega arith)
 allZero-split (suc n) (suc k) [] h = refl
 allZero-split (suc n) (suc k) (c ∷ cs) h = allZero-split n k cs (omega arith)
@@ -385,10 +268,10 @@ last-byte b long h =
 -- what is left to ask of a backyard bucket whose word and slots are sound: byte 63, and the crumbs of its members
 abbrev pub backReading : ℕ → ℕ → List ℕ → Reading → Reading
 backReading B j b Unsound = Unsound
-backReading B j b (Members n) = countIf (eqb (getD b 63 0) 0 && valid B j (take n (spread 16 2 (drop 52 b)))) n
+backReading B j b (Members n) = countIf (eqb (getD b 63 0) 0 && valid B j (take n (slotCrumbs true b))) n
 
-reading-decide : (g : Reading → Reading) → g Unsound ≡ Unsound → (a z q v : Bool) (ys : List ℕ) → g (Members (length ys)) ≡ countIf (q && v) (length ys)
-    → readingOf (given a (given (z && q) (given v (some ys)))) ≡ g (countIf (a && z) (length ys))
+reading-decide : (g : Reading → Reading) → g Unsound ≡ Unsound → (a z q v : Bool) (ys : List ℕ)
+    → g (Members (length ys)) ≡ countIf (q && v) (length ys) → readingOf (given a (given (z && q) (given v (some ys)))) ≡ g (countIf (a && z) (length ys))
 unfolding given
 reading-decide g u false z q v ys e = sym u
 reading-decide g u true false q v ys e = sym u
@@ -405,8 +288,9 @@ reading-back B j b long byte = go (slotKeys layout1 22 b) (λ xs e. slotKeys-sho
     cs = spread 16 2 (drop 52 b)
 
     go : (o : Option (List ℕ)) → ((xs : List ℕ) → o ≡ some xs → length xs ≤ 22)
-        → readingOf (bind o (λ xs. given (ascending (joined 16 xs cs)) (given (allZero (drop (length xs) cs)) (given (valid B j (joined 16 xs cs)) (some (joined 16 xs cs))))))
-        ≡ backReading B j b (readingOf (bind o (λ xs. given (ascending (joined 16 xs cs) && allZero (drop (length xs) (take 22 cs))) (some (joined 16 xs cs)))))
+        → readingOf (bind o (λ xs. let ys = joined 16 xs cs in given (ascending ys) (given (allZero (drop (length xs) cs)) (given (valid B j ys) (some ys)))))
+        ≡ backReading B j b
+        (readingOf (bind o (λ xs. let ys = joined 16 xs cs in given (ascending ys && allZero (drop (length xs) (take 22 cs))) (some ys))))
     go none short = refl
     go (some xs) short =
         let n : length cs ≡ 24 = rw (length-spread 16 2 (drop 52 b), length-drop 52 b, long) in
@@ -463,7 +347,8 @@ reading-room crumbs slots n b l h e = go (slotKeys layout1 slots b) (λ xs f. sl
     inner false m k f = let z : _≡_ {A = ℕ} 0 1 = cc in absurd (omega arith)
 
     go : (o : Option (List ℕ)) → ((xs : List ℕ) → o ≡ some xs → length xs ≤ slots)
-        → readingOf (bind o (λ xs. given (ascending (joined 16 xs cs) && allZero (drop (length xs) (take slots cs))) (some (joined 16 xs cs)))) ≡ Members n → n ≤ slots
+        → readingOf (bind o (λ xs. given (ascending (joined 16 xs cs) && allZero (drop (length xs) (take slots cs))) (some (joined 16 xs cs)))) ≡ Members n
+        → n ≤ slots
     go none short f = let z : _≡_ {A = ℕ} 0 1 = cc in absurd (omega arith)
     go (some xs) short f =
         let t : Bool = ascending (joined 16 xs cs) && allZero (drop (length xs) (take slots cs)) in

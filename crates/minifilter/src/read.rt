@@ -6,10 +6,11 @@ use crate::word;
 use crumbmap::Backyard;
 use crumbmap::valid;
 ghost use mathlib.Core.Path.{_≡_};
+ghost use mathlib.Core.Bool.{true};
 ghost use Prim.Native.Nat.{_+_, _*_, _<_, _≤_};
 ghost use lib.ListN.{length, take, drop, getD};
 ghost use lib.Count.{ones};
-ghost use Rattle.multiset.specs.Digits.{grouped, spread};
+ghost use Rattle.multiset.specs.Digits.{grouped};
 ghost use Rattle.crumbmap.specs.Layouts.{layout1, backyards};
 ghost use Rattle.minifilter.specs.Buckets.{frontMembers, backMembers};
 ghost use Rattle.minifilter.specs.Readings.{readingOf};
@@ -84,7 +85,8 @@ fn ascends(b: &[u8], w: u64, slots: usize, crumbs: bool) -> bool
 // What a slot over mini-bucket `mini` holds: mini-bucket, tag and crumb as one number.
 fn member_at(b: &[u8], mini: u32, slot: usize, crumbs: bool) -> u32
     requires { ⌜ (length (now b) ≡ 64) × (mini ≤ 36) × (slot < slotCount crumbs) ⌝ }
-    ensures { λ r. ⌜ r ≡ (mini * 65536 + getD (grouped 256 2 28 (drop 8 (now (b .entry)))) slot 0) * 16 + getD (slotCrumbs crumbs (now (b .entry))) slot 0 ⌝ }
+    ensures { λ r. ⌜ r ≡ (mini * 65536 + getD (grouped 256 2 28 (drop 8 (now (b .entry)))) slot 0) * 16
+        + getD (slotCrumbs crumbs (now (b .entry))) slot 0 ⌝ }
 {
     let key = mini * 65_536 + slots::tag_of(b, slot);
     if crumbs {
@@ -96,7 +98,7 @@ fn member_at(b: &[u8], mini: u32, slot: usize, crumbs: bool) -> u32
 // "Each crumb is valid": those of the first `members` slots, by their bits in `marks`.
 fn crumbs_marked(b: &[u8], members: usize, marks: u32) -> bool
     requires { ⌜ (length (now b) ≡ 64) × (members ≤ 22) ⌝ }
-    ensures { λ r. ⌜ r ≡ marked marks (take members (spread 16 2 (drop 52 (now (b .entry))))) ⌝ }
+    ensures { λ r. ⌜ r ≡ marked marks (take members (slotCrumbs true (now (b .entry)))) ⌝ }
 {
     if marks == 65_535 {
         return true;

@@ -60,8 +60,8 @@ shl-result : tie.Need-shl-result
 shl-result c = search needs
 
 -- the shift that is left: by B − 8t, below 8
-shift : (c : tie.Else3) → let k = c .before .before .before in 1 * 2 ^ (k .before .args .size - k .before .args .j % k .stride-of .result * 8) % 2 ^ 32
-    ≡ 2 ^ (k .before .args .size - k .before .args .j % k .stride-of .result * 8)
+shift : (c : tie.Else3) → let k = c .before .before .before in
+    1 * 2 ^ (k .before .args .size - k .before .args .j % k .stride-of .result * 8) % 2 ^ 32 ≡ 2 ^ (k .before .args .size - k .before .args .j % k .stride-of .result * 8)
 shift c =
     let k = c .before .before .before in
     one-shl (k .before .args .size - k .before .args .j % k .stride-of .result * 8) (omega arith)

@@ -1,6 +1,6 @@
 -- `minifilter::read::ascends` meets its contract. The loop's invariant: `zeros` are the word's zeros from `slot` on, and the answer for all slots
 -- is the answer for those from `slot` on, behind `last`. The measure is the slots that are left.
-use mathlib.Core.Path.{_≡_, refl, sym, _∙_, ap}
+use mathlib.Core.Path.{_≡_, sym, _∙_, ap}
 use Prim.Native.Nat.{ℕ, suc, _+_, _-_, _≤_, _<_, zero-le}
 use native.Mathlib.Numerals.{add-one}
 use native.Mathlib.Omega.{arith}
@@ -9,14 +9,15 @@ use lib.Count.{trailingZeros}
 use lib.Bits.{bitAnd}
 use Rattle.minifilter.specs.Slots.{slotMinis, slotMembers, inOrder}
 use Rattle.minifilter.proofs.GapLaws.{gaps, gap-place, gap-next, gap-below, gap-some}
-use Rattle.minifilter.proofs.ReadLaws.{slotCount-le, length-slotMinis, slotMinis-run, slotMinis-gaps}
-use Rattle.minifilter.proofs.ReadLaws.{length-slotMembers, slotMembers-at, fromSlot, pass-start, pass-stop, pass-on, pass-end}
+use Rattle.minifilter.proofs.PassLaws.{slotCount-le, length-slotMinis, slotMinis-run, slotMinis-gaps}
+use Rattle.minifilter.proofs.PassLaws.{length-slotMembers, slotMembers-at, fromSlot, pass-start, pass-stop, pass-on, pass-end}
 use Rattle.minifilter.proofs.read.ascends.Statement.{statement}
 use Rattle.minifilter.proofs.read.ascends.Tie as tie
 
 abbrev Inv-loop : tie.InvT-loop
 Inv-loop b w slots crumbs zeros₀ last₀ slot₀ zeros last slot =
-    (slot ≤ slots) × (zeros ≡ gaps slot (drop slot (slotMinis w))) × (inOrder crumbs slots w b ≡ fromSlot last slot (slotMembers crumbs slots w b))
+    (slot ≤ slots) × (zeros ≡ gaps slot (drop slot (slotMinis w)))
+    × (inOrder crumbs slots w b ≡ fromSlot last slot (slotMembers crumbs slots w b))
 
 abbrev μ-loop : tie.MeasureT-loop
 μ-loop b w slots crumbs zeros₀ last₀ slot₀ zeros last slot = slots - slot
@@ -57,9 +58,11 @@ member-is c =
     let a = s .args in
     let i = c .before .before .loop in
     let e : trailingZeros 64 (i .zeros) - i .slot ≡ getD (slotMinis (a .w)) (i .slot) 0 = omega (arith, mini-is (c .before) .0) in
-    c .member-at .ensures
-    ∙ rw e (sym (slotMembers-at (a .w) (s .fits .w .fits) (s .pre .1) (a .crumbs) (a .slots) (s .pre .2) (a .b .now) (s .pre .0) (i .slot) (c .before .loop-test .taken)))
+    rw (c .member-at .ensures, e)
+    (sym (slotMembers-at (a .w) (s .fits .w .fits) (s .pre .1) (a .crumbs) (a .slots) (s .pre .2) (a .b .now) (s .pre .0) (i .slot)
+    (c .before .loop-test .taken)))
 
+-- as many as there are slots
 slots-are : (c : tie.At-loop Inv-loop μ-loop)
     → let a = c .before .before .args in length (slotMembers (a .crumbs) (a .slots) (a .w) (a .b .now)) ≡ a .slots
 slots-are c =

@@ -3,7 +3,7 @@ use Prim.Native.Nat.{ℕ, _<_}
 use native.Mathlib.Omega.{arith}
 use borrow.Author.Needs.{needs}
 use lib.ListN.{getD-replicate}
-use Rattle.minifilter.proofs.ReadLaws.{slotCount-le}
+use Rattle.minifilter.proofs.PassLaws.{slotCount-le}
 use Rattle.minifilter.proofs.read.member_at.Statement.{statement}
 use Rattle.minifilter.proofs.read.member_at.Tie as tie
 

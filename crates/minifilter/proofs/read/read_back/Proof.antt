@@ -1,17 +1,18 @@
 -- `minifilter::read::read_back` meets its contract: what `read_slots` leaves is byte 63 and the crumbs of the members.
-use mathlib.Core.Path.{_≡_, refl, sym, _∙_}
+use mathlib.Core.Path.{_≡_, sym, _∙_}
 use Prim.Native.Nat.{_≤_}
 use native.Mathlib.Omega.{arith}
 use mathlib.Core.Bool.{true, _&&_}
 use borrow.Author.Needs.{needs}
 use borrow.Author.Tests.{eq-eqb, ne-eqb}
-use lib.ListN.{take, drop, getD}
+use lib.ListN.{take, getD}
 use lib.Dec.{eqb}
-use Rattle.multiset.specs.Digits.{spread}
-use Rattle.multiset.proofs.DigitLaws.{below-spread, below-take}
+use Rattle.multiset.proofs.DigitLaws.{below-take}
 use Rattle.crumbmap.specs.Layouts.{layout1}
 use Rattle.minifilter.specs.Buckets.{backMembers, valid}
 use Rattle.minifilter.specs.Readings.{readingOf}
+use Rattle.minifilter.specs.Slots.{slotCrumbs}
+use Rattle.minifilter.proofs.PassLaws.{below-slotCrumbs}
 use Rattle.minifilter.proofs.ReadLaws.{reading-back, reading-room, marked-valid, backReading, countIf}
 use Rattle.minifilter.proofs.read.read_back.Statement.{statement}
 use Rattle.minifilter.proofs.read.read_back.Tie as tie
@@ -30,7 +31,8 @@ by-slots : (c : tie.After-read-slots) → let a = c .before .before .args in
     readingOf (backMembers layout1 (a .size) (a .bucket .0) (a .b .now)) ≡ backReading (a .size) (a .bucket .0) (a .b .now) (c .read-slots .result)
 by-slots c =
     let s = c .before .before in
-    rw (c .read-slots .ensures) (reading-back (s .args .size) (s .args .bucket .0) (s .args .b .now) (s .pre .0) (c .before .shared-slice-known .given 63 .fits))
+    rw (c .read-slots .ensures)
+    (reading-back (s .args .size) (s .args .bucket .0) (s .args .b .now) (s .pre .0) (c .before .shared-slice-known .given 63 .fits))
 
 returns : tie.Need-returns
 returns c = sym (by-slots (c .before .before) ∙ rw (c .enum-told .given .1))
@@ -38,7 +40,7 @@ returns c = sym (by-slots (c .before .before) ∙ rw (c .enum-told .given .1))
 -- where it gave a member count
 by-rest : (c : tie.After-members) → let a = c .before .before .before .before .args in
     readingOf (backMembers layout1 (a .size) (a .bucket .0) (a .b .now))
-    ≡ countIf (eqb (getD (a .b .now) 63 0) 0 && valid (a .size) (a .bucket .0) (take (c .members .given .0 .0) (spread 16 2 (drop 52 (a .b .now)))))
+    ≡ countIf (eqb (getD (a .b .now) 63 0) 0 && valid (a .size) (a .bucket .0) (take (c .members .given .0 .0) (slotCrumbs true (a .b .now))))
     (c .members .given .0 .0)
 by-rest c = by-slots (c .before .before) ∙ rw (c .members .given .1)
 
@@ -53,10 +55,12 @@ returns-2 c =
 valid-crumbs-requires : tie.Need-valid-crumbs-requires
 valid-crumbs-requires c κs = search needs
 
+-- at most 22
 room : (c : tie.After-members) → c .members .given .0 .0 ≤ 22
 room c =
     let r = c .before .before in
-    reading-room true 22 (c .members .given .0 .0) (r .before .before .args .b .now) (omega arith) (omega arith) (sym (r .read-slots .ensures) ∙ c .members .given .1)
+    reading-room true 22 (c .members .given .0 .0) (r .before .before .args .b .now) (omega arith) (omega arith)
+    (sym (r .read-slots .ensures) ∙ c .members .given .1)
 
 crumbs-marked-requires : tie.Need-crumbs-marked-requires
 crumbs-marked-requires c κs =
@@ -70,12 +74,12 @@ by-crumbs c =
     let m = c .before .before .before .before .before in
     let a = m .before .before .before .before .args in
     let n = m .members .given .0 .0 in
-    let cs = spread 16 2 (drop 52 (a .b .now)) in
+    let cs = slotCrumbs true (a .b .now) in
     let v = c .before .valid-crumbs in
     by-rest m
     ∙ rw (
       eq-eqb (getD (a .b .now) 63 0) 0 (c .before .before .if1 .left),
-      marked-valid (a .size) (a .bucket .0) (v .result) (v .ensures) (take n cs) (below-take 16 n cs (below-spread 16 2 (drop 52 (a .b .now)) (omega arith))),
+      marked-valid (a .size) (a .bucket .0) (v .result) (v .ensures) (take n cs) (below-take 16 n cs (below-slotCrumbs true (a .b .now))),
       c .crumbs-marked .ensures,
     )
 

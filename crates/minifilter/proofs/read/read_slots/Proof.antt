@@ -1,5 +1,6 @@
--- `minifilter::read::read_slots` meets its contract: each test of the word refuses what the specification refuses, and the pass over the slots decides the rest.
-use mathlib.Core.Path.{_≡_, refl, sym, _∙_}
+-- `minifilter::read::read_slots` meets its contract: two tests of the word refuse what the specification refuses, and the pass over the slots
+-- decides the rest.
+use mathlib.Core.Path.{_≡_, sym, _∙_}
 use Prim.Native.Nat.{_<_, _^_}
 use native.Mathlib.Omega.{arith}
 use borrow.Author.Needs.{needs}
@@ -29,8 +30,8 @@ returns-2 c =
     let a = s .args in
     let w = c .before .before .before .word-of in
     let small : w .result < 2 ^ 64 = omega (arith, w .ok) in
-    sym (reading-over (w .result) (a .crumbs) (a .slots) (s .pre .1) (s .pre .2) (a .b .now) (s .pre .0) (w .ensures) small (c .before .before .if1 .left)
-    (omega (arith, c .before .occupancy .ensures .0)))
+    sym (reading-over (w .result) (a .crumbs) (a .slots) (s .pre .1) (s .pre .2) (a .b .now) (s .pre .0) (w .ensures) small
+    (c .before .before .if1 .left) (omega (arith, c .before .occupancy .ensures .0)))
 
 ascends-requires : tie.Need-ascends-requires
 ascends-requires c κs = search needs
@@ -46,8 +47,8 @@ decided c =
     let o = c .before .before .occupancy in
     let small : w .result < 2 ^ 64 = omega (arith, w .ok) in
     rw (o .ensures .0, c .ascends .ensures)
-    (reading-slots (w .result) (a .crumbs) (a .slots) (s .pre .1) (s .pre .2) (a .b .now) (s .pre .0) (w .ensures) small (c .before .before .before .if1 .left)
-    (below-bytes (a .b .now) (k .shared-slice-known .given)) (omega (arith, o .ensures .0)))
+    (reading-slots (w .result) (a .crumbs) (a .slots) (s .pre .1) (s .pre .2) (a .b .now) (s .pre .0) (w .ensures) small
+    (c .before .before .before .if1 .left) (below-bytes (a .b .now) (k .shared-slice-known .given)) (omega (arith, o .ensures .0)))
 
 returns-3 : tie.Need-returns-3
 returns-3 c = sym (decided (c .before) ∙ rw (c .if3 .taken))

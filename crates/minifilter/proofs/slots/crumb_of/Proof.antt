@@ -1,5 +1,5 @@
 -- `minifilter::slots::crumb_of` meets its contract: the half of its byte is the crumb of the slot, by `crumb-at`.
-use Prim.Native.Nat.{_+_, _*_, _/_}
+use Prim.Native.Nat.{_+_, _/_}
 use native.Mathlib.Omega.{arith}
 use borrow.Author.Needs.{needs}
 use Rattle.minifilter.proofs.ElementLaws.{crumb-at}

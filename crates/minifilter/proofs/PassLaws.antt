@@ -1,0 +1,135 @@
+-- What the reader's pass over all slots meets: the mini-buckets of a word's zeros, what each slot holds, and what is still to be said from a slot on.
+-- Main results: `slotMinis-run`, `slotMinis-gaps`, `slotMembers-at`, `pass-start`, `pass-stop`, `pass-on`, `pass-end`.
+use mathlib.Core.Path.{_≡_, refl, sym, _∙_}
+use Prim.Native.Nat.{ℕ, zero, suc, _+_, _*_, _-_, _^_, _≤_, _<_, min}
+use native.Mathlib.Nat.{le-refl}
+use native.Mathlib.Omega.{arith}
+use mathlib.Core.Bool.{Bool, true, false, and-true}
+use mathlib.Core.List.{List, [], _∷_, _++_}
+use mathlib.Core.Option.{some}
+use lib.ListN.{length, drop, getD, replicate, length-append, length-replicate, length-drop, drop-of-length-le}
+use lib.Seq.{drop-cons}
+use lib.Count.{ones}
+use lib.Dec.{leb, leb·zero}
+use borrow.Author.Tests.{lt-leb, le-leb}
+use Rattle.multiset.specs.Multisets.{ascending, atLeast, Below}
+use Rattle.multiset.specs.Digits.{grouped, joined}
+use Rattle.multiset.proofs.DigitLaws.{length-spread, length-grouped, below-spread, below-replicate}
+use Rattle.minifilter.specs.Words.{minisFrom}
+use Rattle.minifilter.specs.Readings.{minisOf}
+use Rattle.minifilter.specs.Slots.{slotCount, slotCrumbs, slotMinis, slotMembers}
+use Rattle.minifilter.proofs.WordLaws.{Run, Coded, minis-ones, coded-minis, coded-run}
+use Rattle.minifilter.proofs.ElementLaws.{grouped-at}
+use Rattle.minifilter.proofs.GapLaws.{gaps, gaps-word}
+
+-- ---- joined lists
+
+pub joined-at : (k : ℕ) (ms rs : List ℕ) (s : ℕ) → s < length ms → s < length rs → getD (joined k ms rs) s 0 ≡ getD ms s 0 * k + getD rs s 0
+unfolding joined
+joined-at k [] rs s h l = absurd (omega arith)
+joined-at k (m ∷ ms) [] s h l = absurd (omega arith)
+joined-at k (m ∷ ms) (r ∷ rs) zero h l = refl
+joined-at k (m ∷ ms) (r ∷ rs) (suc s) h l = joined-at k ms rs s (omega arith) (omega arith)
+
+pub length-joined-min : (k : ℕ) (ms rs : List ℕ) → length (joined k ms rs) ≡ min (length ms) (length rs)
+unfolding joined
+length-joined-min k [] rs = omega arith
+length-joined-min k (m ∷ ms) [] = omega arith
+length-joined-min k (m ∷ ms) (r ∷ rs) = omega (arith, length-joined-min k ms rs)
+
+-- ---- the word's zeros
+
+run-padded : (lo hi p : ℕ) (ms : List ℕ) → lo ≤ hi → Run lo hi ms → Run lo (suc hi) (ms ++ replicate p hi)
+run-padded lo hi zero [] h r = tt
+run-padded lo hi (suc p) [] h r = (h, le-refl (suc hi), run-padded hi hi p [] (le-refl hi) tt)
+run-padded lo hi p (m ∷ ms) h r = (r .0, omega arith, run-padded m hi p ms (omega arith) (r .2))
+
+pub run-below : (lo hi : ℕ) (ms : List ℕ) → Run lo hi ms → Below hi ms
+run-below lo hi [] r = tt
+run-below lo hi (m ∷ ms) r = (r .1, run-below m hi ms (r .2))
+
+module _ (w : ℕ) (small : w < 2 ^ 64) (full : ones w ≡ 36) where
+  pub minis-word : minisFrom 64 36 0 w ≡ some (minisOf w)
+  unfolding minisOf
+  minis-word = let t = minis-ones 64 36 0 w small full in rw (t .1)
+
+  coded-word : Coded 36 0 (minisOf w) w × (36 + length (minisOf w) ≤ 64)
+  coded-word = coded-minis 64 36 0 w (minisOf w) minis-word
+
+  pub minisOf-run : Run 0 36 (minisOf w)
+  minisOf-run = coded-run (coded-word .0)
+
+  pub length-slotMinis : length (slotMinis w) ≡ 28
+  unfolding slotMinis
+  length-slotMinis = rw (length-append, length-replicate) (omega (arith, coded-word .1))
+
+  pub slotMinis-run : Run 0 37 (slotMinis w)
+  unfolding slotMinis
+  slotMinis-run = run-padded 0 36 (28 - length (minisOf w)) (minisOf w) (omega arith) minisOf-run
+
+  pub slotMinis-gaps : gaps 0 (slotMinis w) + (1 + w) ≡ 2 ^ 64
+  unfolding slotMinis
+  slotMinis-gaps = gaps-word (28 - length (minisOf w)) 64 (coded-word .0) (omega (arith, coded-word .1))
+
+-- ---- what the pass over the slots meets
+
+pub length-slotCrumbs : (crumbs : Bool) (b : List ℕ) → length b ≡ 64 → slotCount crumbs ≤ length (slotCrumbs crumbs b)
+length-slotCrumbs true b long = rw (length-spread 16 2 (drop 52 b), length-drop 52 b) (omega arith)
+length-slotCrumbs false b long = le-refl 28
+
+pub below-slotCrumbs : (crumbs : Bool) (b : List ℕ) → Below 16 (slotCrumbs crumbs b)
+below-slotCrumbs true b = below-spread 16 2 (drop 52 b) (omega arith)
+below-slotCrumbs false b = below-replicate 16 28 (omega arith)
+
+pub slotCount-le : (crumbs : Bool) → slotCount crumbs ≤ 28
+slotCount-le true = omega arith
+slotCount-le false = omega arith
+
+module _ (w : ℕ) (small : w < 2 ^ 64) (full : ones w ≡ 36) (crumbs : Bool) (slots : ℕ) (room : slots ≤ slotCount crumbs)
+    (b : List ℕ) (long : length b ≡ 64) where
+  pub length-slotMembers : length (slotMembers crumbs slots w b) ≡ slots
+  unfolding slotMembers
+  length-slotMembers =
+      let l = length-slotMinis w small full in
+      rw (length-joined-min, length-joined-min, length-grouped, l) (omega (arith, slotCount-le crumbs, length-slotCrumbs crumbs b long))
+
+  pub slotMembers-at : (s : ℕ) → s < slots → getD (slotMembers crumbs slots w b) s 0
+      ≡ (getD (slotMinis w) s 0 * 65536 + getD (grouped 256 2 28 (drop 8 b)) s 0) * 16 + getD (slotCrumbs crumbs b) s 0
+  unfolding slotMembers
+  slotMembers-at s h =
+      let ds : List ℕ = drop 8 b in
+      let n = slotCount-le crumbs in
+      let g : getD (grouped 256 2 slots ds) s 0 ≡ getD (grouped 256 2 28 ds) s 0 =
+      grouped-at 256 2 slots ds s h ∙ sym (grouped-at 256 2 28 ds s (omega arith)) in
+      let l : s < length (slotMinis w) = rw (length-slotMinis w small full) (omega arith) in
+      let k : s < length (grouped 256 2 slots ds) = rw (length-grouped 256 2 slots ds) h in
+      joined-at 16 (joined 65536 (slotMinis w) (grouped 256 2 slots ds)) (slotCrumbs crumbs b) s (rw length-joined-min (omega arith))
+      (omega (arith, length-slotCrumbs crumbs b long))
+      ∙ rw (joined-at 65536 (slotMinis w) (grouped 256 2 slots ds) s l k, g)
+
+-- ---- the pass itself: what it has still to say from slot s on
+
+pub ascending-zero : (l : List ℕ) → ascending (0 ∷ l) ≡ ascending l
+unfolding ascending atLeast
+ascending-zero [] = refl
+ascending-zero (x ∷ l) = rw (leb·zero x)
+
+unfoldable pub fromSlot : ℕ → ℕ → List ℕ → Bool
+fromSlot last s ks = ascending (last ∷ (drop s ks ++ (37748736 ∷ [])))
+
+pub pass-start : (ks : List ℕ) → ascending (ks ++ (37748736 ∷ [])) ≡ fromSlot 0 0 ks
+unfolding fromSlot
+pass-start ks = sym (ascending-zero (ks ++ (37748736 ∷ [])))
+
+module _ (last s : ℕ) (ks : List ℕ) (h : s < length ks) where
+  pub pass-stop : getD ks s 0 < last → fromSlot last s ks ≡ false
+  unfolding fromSlot ascending atLeast
+  pass-stop l = rw (drop-cons ks s 0 h, lt-leb last (getD ks s 0) l)
+
+  pub pass-on : last ≤ getD ks s 0 → fromSlot last s ks ≡ fromSlot (getD ks s 0) (suc s) ks
+  unfolding fromSlot ascending atLeast
+  pass-on l = rw (drop-cons ks s 0 h, le-leb last (getD ks s 0) l)
+
+pub pass-end : (last s : ℕ) (ks : List ℕ) → length ks ≤ s → fromSlot last s ks ≡ leb last 37748736
+unfolding fromSlot ascending atLeast
+pass-end last s ks h = rw (drop-of-length-le ks h) (and-true (leb last 37748736))
