@@ -1,4 +1,4 @@
--- Laws of words, of select, of a bucket's bytes and members, and of the reader.
+-- Laws of words, of select, of a bucket's bytes and members, of the reader, of search and of edits.
 pub mod WordLaws
 pub mod SelectLaws
 pub mod SlotBytes
@@ -7,3 +7,7 @@ pub mod ElementLaws
 pub mod GapLaws
 pub mod PassLaws
 pub mod ReadLaws
+pub mod FindLaws
+pub mod ListLaws
+pub mod ShiftLaws
+pub mod EditLaws

@@ -152,7 +152,7 @@ module _ (L : Layout) (slots : ℕ) where
       read-checked b xs (found .0) (found .1) (found .2)
 
   -- the word's bytes and the tags' bytes are read back
-  wordIn-slotBytes : (xs rest : List ℕ) → wordFrom (L .minis) 0 (highs (tags L) xs) < 256 ^ wordBytes L slots
+  pub wordIn-slotBytes : (xs rest : List ℕ) → wordFrom (L .minis) 0 (highs (tags L) xs) < 256 ^ wordBytes L slots
       → wordIn L slots (slotBytes L slots xs ++ rest) ≡ wordFrom (L .minis) 0 (highs (tags L) xs)
   unfolding slotBytes
   wordIn-slotBytes xs rest h =
@@ -163,7 +163,7 @@ module _ (L : Layout) (slots : ℕ) where
       )
       (value-digits 256 (wordBytes L slots) w (omega arith) h)
 
-  tagsIn-slotBytes : (xs rest : List ℕ) → length xs ≤ slots → tagsIn L slots (slotBytes L slots xs ++ rest) ≡ padded slots (lows (tags L) xs)
+  pub tagsIn-slotBytes : (xs rest : List ℕ) → length xs ≤ slots → tagsIn L slots (slotBytes L slots xs ++ rest) ≡ padded slots (lows (tags L) xs)
   unfolding slotBytes
   tagsIn-slotBytes xs rest h =
       let rs : List ℕ = padded slots (lows (tags L) xs) in

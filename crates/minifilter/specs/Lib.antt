@@ -4,3 +4,4 @@ pub mod Select
 pub mod Buckets
 pub mod Readings
 pub mod Slots
+pub mod Edits

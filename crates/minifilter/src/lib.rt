@@ -1,5 +1,7 @@
 // One 64-byte bucket: its word, slots, reader, search, insert and remove.
 
+pub mod edit;
+pub mod find;
 pub mod read;
 pub mod select;
 pub mod slots;

@@ -1,0 +1,83 @@
+-- `find::find_in` meets its contract: the bounds of the mini-bucket are those of its members, and two scans find the member and what follows it.
+use mathlib.Core.Path.{_≡_, ap, _∙_}
+use Prim.Native.Nat.{ℕ, suc, _≤_}
+use mathlib.Core.List.{List}
+use native.Mathlib.Omega.{arith}
+use Rattle.multiset.specs.Multisets.{below}
+use Rattle.multiset.specs.Digits.{highs}
+use Rattle.minifilter.specs.Readings.{minisOf}
+use Rattle.minifilter.specs.Slots.{slotCount}
+use Rattle.minifilter.specs.Edits.{membersOf, spanOf}
+use Rattle.multiset.proofs.MultisetLaws.{below-suc, below-le-length}
+use Rattle.multiset.proofs.DigitLaws.{length-highs}
+use Rattle.minifilter.proofs.ElementLaws.{below-bytes}
+use Rattle.minifilter.proofs.FindLaws.{Held, sound-long, span-le, held, found-in}
+use Rattle.minifilter.proofs.find.find_in.Statement.{statement}
+use Rattle.minifilter.proofs.find.find_in.Tie as tie
+use Rattle.minifilter.proofs.find.find_in.Reads as reads
+use Rattle.minifilter.proofs.find.find_in.Lts as lts
+use Rattle.minifilter.proofs.find.scan.Reads as scan-reads
+use Rattle.minifilter.proofs.word.bounds.Reads as bounds-reads
+use Rattle.minifilter.proofs.word.word_of.Reads as word-of-reads
+
+known : (c : tie.After-shared-slice-known)
+    → let a = c .before .args in Held (a .crumbs) (a .b .now) (membersOf (a .crumbs) (a .b .now))
+known c =
+    let a = c .before .args in
+    held (a .crumbs) (a .b .now) (below-bytes (a .b .now) (c .shared-slice-known .given)) (c .before .pre .0)
+
+-- the members' mini-buckets
+abbrev minis : (c : tie.After-bounds) → List ℕ
+minis c = let a = c .before .before .before .args in highs (spanOf (a .crumbs)) (membersOf (a .crumbs) (a .b .now))
+
+from-is : (c : tie.After-bounds) → c .bounds .result .from ≡ below (c .before .before .before .args .mini) (minis c)
+from-is c = c .bounds .ensures .0
+    ∙ ap (below (c .before .before .before .args .mini)) (ap minisOf (c .before .word-of .ensures) ∙ known (c .before .before) .minis)
+
+past-is : (c : tie.After-bounds) → c .bounds .result .past ≡ below (suc (c .before .before .before .args .mini)) (minis c)
+past-is c = c .bounds .ensures .1
+    ∙ ap (below (suc (c .before .before .before .args .mini))) (ap minisOf (c .before .word-of .ensures) ∙ known (c .before .before) .minis)
+
+past-le : (c : tie.After-bounds) → c .bounds .result .past ≤ slotCount (c .before .before .before .args .crumbs)
+past-le c =
+    let a = c .before .before .before .args in
+    omega (
+      arith,
+      past-is c,
+      below-le-length (suc (a .mini)) (minis c),
+      length-highs (spanOf (a .crumbs)) (membersOf (a .crumbs) (a .b .now)),
+      known (c .before .before) .room,
+    )
+
+word-of-requires : tie.Need-word-of-requires
+word-of-requires c κs = let a = c .before .args in sound-long (a .crumbs) (a .b .now) (c .before .pre .0)
+
+bounds-requires : tie.Need-bounds-requires
+bounds-requires c κs = (rw (c .word-of .ensures) (known (c .before) .many), c .before .before .pre .1)
+
+scan-requires : tie.Need-scan-requires
+scan-requires c κs =
+    let s = c .before .before .before in
+    (sound-long (s .args .crumbs) (s .args .b .now) (s .pre .0), omega (arith, from-is c, past-is c, below-suc (s .args .mini) (minis c)), past-le c)
+
+add-scan : tie.Need-add-scan
+add-scan c = let s = c .before .before .before .before in omega (arith, s .pre .2, span-le (s .args .crumbs))
+
+scan-requires-2 : tie.Need-scan-requires-2
+scan-requires-2 c κs =
+    let s = c .before .before .before .before in
+    (sound-long (s .args .crumbs) (s .args .b .now) (s .pre .0), c .scan .ensures .stop, past-le (c .before))
+
+sub-t11 : tie.Need-sub-t11
+sub-t11 c = omega (arith, c .scan2 .ensures .start)
+
+returns : tie.Need-returns
+returns c =
+    let at = c .before .before in
+    let s = at .before .before .before in
+    let a = s .args in
+    found-in (a .crumbs) (a .b .now) (membersOf (a .crumbs) (a .b .now)) (known (at .before .before)) (a .mini) (a .low) (c .before .scan .result)
+    (c .scan2 .result) (s .pre .2) (rw (from-is at, past-is at) at (c .before .scan .ensures)) (rw (past-is at) at (c .scan2 .ensures))
+
+pub find-in-spec : {M : Type 1} → statement M
+find-in-spec = tie.close (tie.spec word-of-requires bounds-requires scan-requires add-scan scan-requires-2 sub-t11 returns)

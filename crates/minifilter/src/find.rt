@@ -1,0 +1,205 @@
+// What a sound bucket holds: where a member stands, the largest, the member at a slot, all in order, those that carry a crumb.
+
+use crate::Carried;
+use crate::Found;
+use crate::select;
+use crate::slots;
+use crate::word;
+ghost use mathlib.Core.Path.{_≡_};
+ghost use Prim.Native.Nat.{_+_, _*_, _-_, _<_, _≤_};
+ghost use mathlib.Core.List.{_++_};
+ghost use lib.ListN.{length, drop, getD};
+ghost use lib.Count.{trailingZeros};
+ghost use Rattle.multiset.specs.Multisets.{largest};
+ghost use Rattle.multiset.specs.Digits.{grouped};
+ghost use Rattle.crumbmap.specs.Layouts.{layout1, keys};
+ghost use Rattle.minifilter.specs.Buckets.{carrying};
+ghost use Rattle.minifilter.specs.Readings.{SoundFront, SoundBack, frontList, backList, FoundIn, firstOf};
+ghost use Rattle.minifilter.specs.Slots.{slotCount};
+ghost use Rattle.minifilter.specs.Edits.{Sound, membersOf, spanOf, lowAt, Scanned, FirstWith, wantedAt, chosen};
+
+// What the bytes hold of a slot.
+fn low_of(b: &[u8], crumbs: bool, slot: usize) -> u32
+    requires { ⌜ (length (now b) ≡ 64) × (slot < slotCount crumbs) ⌝ }
+    ensures { λ r. ⌜ r ≡ lowAt crumbs (now (b .entry)) slot ⌝ }
+{
+    let tag = slots::tag_of(b, slot);
+    if crumbs {
+        return tag * 16 + slots::crumb_of(b, slot);
+    }
+    tag
+}
+
+// The first slot that holds `low` or more, among those of one mini-bucket.
+fn scan(b: &[u8], crumbs: bool, from: usize, past: usize, low: u32) -> usize
+    requires { ⌜ (length (now b) ≡ 64) × (from ≤ past) × (past ≤ slotCount crumbs) ⌝ }
+    ensures { λ r. ⌜ Scanned crumbs (now (b .entry)) from past low r ⌝ }
+{
+    let mut slot = from;
+    while slot < past {
+        let here = low_of(b, crumbs, slot);
+        if low <= here {
+            return slot;
+        }
+        slot += 1;
+    }
+    slot
+}
+
+// A member in a bucket of either kind: the slots that hold it are those from the first that holds as much to the first that holds more.
+fn find_in(b: &[u8], crumbs: bool, mini: u32, low: u32) -> Found
+    requires { ⌜ Sound crumbs (now b) × (mini < 36) × (low < spanOf crumbs) ⌝ }
+    ensures { λ r. ⌜ FoundIn (mini * spanOf crumbs + low) (membersOf crumbs (now (b .entry))) r ⌝ }
+{
+    let slots = word::bounds(word::word_of(b), mini);
+    let past = slots.past;
+    let slot = scan(b, crumbs, slots.from, past, low);
+    let end = scan(b, crumbs, slot, past, low + 1);
+    Found {
+        slot: slot,
+        copies: end - slot,
+    }
+}
+
+// A key in a front bucket.
+pub fn find_front(b: &[u8], key: u32) -> Found
+    requires { ⌜ SoundFront (now b) × (key < keys layout1) ⌝ }
+    ensures { λ r. ⌜ FoundIn key (frontList (now (b .entry))) r ⌝ }
+{
+    find_in(b, false, key / 65_536, key % 65_536)
+}
+
+// A member, key × 16 + crumb, in a backyard bucket.
+pub fn find_back(b: &[u8], member: u32) -> Found
+    requires { ⌜ SoundBack (now b) × (member < keys layout1 * 16) ⌝ }
+    ensures { λ r. ⌜ FoundIn member (backList (now (b .entry))) r ⌝ }
+{
+    find_in(b, true, member / 1_048_576, member % 1_048_576)
+}
+
+// The largest key of a front bucket that holds 28: above its zero the word has ones alone, one for each mini-bucket from its own on.
+pub fn largest_front(b: &[u8]) -> u32
+    requires { ⌜ SoundFront (now b) × (length (frontList (now b)) ≡ 28) ⌝ }
+    ensures { λ r. ⌜ r ≡ largest (frontList (now (b .entry))) ⌝ }
+{
+    let ones = u64::leading_zeros(!word::word_of(b));
+    (36 - ones) * 65_536 + slots::tag_of(b, 27)
+}
+
+// The member at a slot in use of a bucket of either kind: the zero of slot i in mini-bucket m is bit m + i of the word.
+fn member_in(b: &[u8], crumbs: bool, slot: usize) -> u32
+    requires { ⌜ Sound crumbs (now b) × (slot < length (membersOf crumbs (now b))) ⌝ }
+    ensures { λ r. ⌜ r ≡ getD (membersOf crumbs (now (b .entry))) slot 0 ⌝ }
+{
+    let zeros = !word::word_of(b);
+    let mini = select::select(zeros, slot as u32) - (slot as u32);
+    let low = low_of(b, crumbs, slot);
+    if crumbs {
+        return mini * 1_048_576 + low;
+    }
+    mini * 65_536 + low
+}
+
+// The key at a slot in use of a front bucket, and the member at one of a backyard bucket.
+pub fn member_front(b: &[u8], slot: usize) -> u32
+    requires { ⌜ SoundFront (now b) × (slot < length (frontList (now b))) ⌝ }
+    ensures { λ r. ⌜ r ≡ getD (frontList (now (b .entry))) slot 0 ⌝ }
+{
+    member_in(b, false, slot)
+}
+
+pub fn member_back(b: &[u8], slot: usize) -> u32
+    requires { ⌜ SoundBack (now b) × (slot < length (backList (now b))) ⌝ }
+    ensures { λ r. ⌜ r ≡ getD (backList (now (b .entry))) slot 0 ⌝ }
+{
+    member_in(b, true, slot)
+}
+
+// The key of the slot whose zero is the lowest of `zeros`.
+fn key_at(b: &[u8], zeros: u64, slot: usize) -> u32
+    requires { ⌜ (length (now b) ≡ 64) × (slot < 28) × (slot ≤ trailingZeros 64 zeros) ⌝ }
+    ensures { λ r. ⌜ r ≡ (trailingZeros 64 zeros - slot) * 65536 + getD (grouped 256 2 28 (drop 8 (now (b .entry)))) slot 0 ⌝ }
+{
+    let mini = u64::trailing_zeros(zeros) - (slot as u32);
+    mini * 65_536 + slots::tag_of(b, slot)
+}
+
+// Whether a slot is among those asked for.
+fn wanted(b: &[u8], crumbs: bool, slot: usize, crumb: u32) -> bool
+    requires { ⌜ (length (now b) ≡ 64) × (slot < slotCount crumbs) ⌝ }
+    ensures { λ r. ⌜ r ≡ wantedAt crumbs crumb (now (b .entry)) slot ⌝ }
+{
+    if crumbs {
+        return slots::crumb_of(b, slot) == crumb;
+    }
+    true
+}
+
+// The keys asked for, in order, into the start of `out`; how many. The zeros of the word are taken in turn, the lowest first.
+fn list_in(b: &[u8], crumbs: bool, crumb: u32, out: &mut [u32]) -> usize
+    requires { ⌜ Sound crumbs (now b) × (length (now out) ≡ slotCount crumbs) ⌝ }
+    ensures { λ r. ⌜ (r ≡ length (chosen crumbs crumb (membersOf crumbs (now (b .entry)))))
+        × (now (out .exit) ≡ chosen crumbs crumb (membersOf crumbs (now (b .entry))) ++ drop r (now (out .entry))) ⌝ }
+{
+    let word = word::word_of(b);
+    let members = word::occupancy(word);
+    let mut zeros = !word;
+    let mut slot: usize = 0;
+    let mut n: usize = 0;
+    while slot < members {
+        let key = key_at(b, zeros, slot);
+        if wanted(b, crumbs, slot, crumb) {
+            out[n] = key;
+            n += 1;
+        }
+        zeros = zeros & (zeros - 1);
+        slot += 1;
+    }
+    n
+}
+
+// All keys of a front bucket, in order, into the start of `out`; how many.
+pub fn list_front(b: &[u8], out: &mut [u32]) -> usize
+    requires { ⌜ SoundFront (now b) × (length (now out) ≡ 28) ⌝ }
+    ensures { λ r. ⌜ (r ≡ length (frontList (now (b .entry)))) × (now (out .exit) ≡ frontList (now (b .entry)) ++ drop r (now (out .entry))) ⌝ }
+{
+    list_in(b, false, 0, out)
+}
+
+// The keys that carry a crumb in a backyard bucket, in order, into the start of `out`; how many.
+pub fn list_carrying(b: &[u8], crumb: u32, out: &mut [u32]) -> usize
+    requires { ⌜ SoundBack (now b) × (crumb < 16) × (length (now out) ≡ 22) ⌝ }
+    ensures { λ r. ⌜ (r ≡ length (carrying crumb (backList (now (b .entry)))))
+        × (now (out .exit) ≡ carrying crumb (backList (now (b .entry))) ++ drop r (now (out .entry))) ⌝ }
+{
+    list_in(b, true, crumb, out)
+}
+
+// The first of the slots in use that holds a crumb.
+fn first_slot(b: &[u8], members: usize, crumb: u32) -> usize
+    requires { ⌜ (length (now b) ≡ 64) × (members ≤ 22) ⌝ }
+    ensures { λ r. ⌜ FirstWith crumb (now (b .entry)) members r ⌝ }
+{
+    let mut slot = 0;
+    while slot < members {
+        let here = slots::crumb_of(b, slot);
+        if here == crumb {
+            return slot;
+        }
+        slot += 1;
+    }
+    slot
+}
+
+// The lowest of the keys that carry a crumb.
+pub fn first_carrying(b: &[u8], crumb: u32) -> Carried
+    requires { ⌜ SoundBack (now b) × (crumb < 16) ⌝ }
+    ensures { λ r. ⌜ r ≡ firstOf (carrying crumb (backList (now (b .entry)))) ⌝ }
+{
+    let members = word::occupancy(word::word_of(b));
+    let slot = first_slot(b, members, crumb);
+    if members <= slot {
+        return Carried::Nothing;
+    }
+    Carried::Key(member_in(b, true, slot) / 16)
+}
