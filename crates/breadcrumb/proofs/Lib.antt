@@ -1,0 +1,7 @@
+-- Laws of the calls: parts of the image, steps and what they write.
+pub mod PartLaws
+pub mod StepLaws
+pub mod WriteLaws
+pub mod AskLaws
+pub mod InsertLaws
+pub mod EmptyLaws

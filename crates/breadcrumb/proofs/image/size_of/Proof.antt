@@ -1,0 +1,44 @@
+use borrow.Author.Needs.{needs}
+use native.Mathlib.Omega.{arith}
+use Rattle.machine.specs.Images.{lengthOf}
+use Rattle.breadcrumb.proofs.PartLaws.{size-wrong, size-right}
+use Prim.Native.Nat.{_-_, _/_}
+use Rattle.breadcrumb.proofs.image.size_of.Statement.{statement}
+use Rattle.breadcrumb.proofs.image.size_of.Tie as tie
+use Rattle.breadcrumb.proofs.image.size_of.Reads as reads
+use Rattle.breadcrumb.proofs.image.size_of.Lts as lts
+
+-- src/image.rt:37:9
+returns : tie.Need-returns
+unfolding lengthOf
+returns c = size-wrong (c .before .args .len) (λ B e p h. omega arith)
+
+-- src/image.rt:39:17
+sub-size : tie.Need-sub-size
+sub-size c = search needs
+
+-- src/image.rt:41:9
+returns-2 : tie.Need-returns-2
+unfolding lengthOf
+returns-2 c = size-wrong (c .before .before .args .len) (λ B e p h. omega arith)
+
+-- src/image.rt:43:15
+mul-if3 : tie.Need-mul-if3
+mul-if3 c = search needs
+
+-- src/image.rt:43:15
+add-if3 : tie.Need-add-if3
+add-if3 c = search needs
+
+-- src/image.rt:33:1
+returns-3 : tie.Need-returns-3
+unfolding lengthOf
+returns-3 c = let n = c .before .before .before .args .len in size-right n ((n - 448) / 576) (omega arith) (omega arith) (omega arith)
+
+-- src/image.rt:33:1
+returns-4 : tie.Need-returns-4
+unfolding lengthOf
+returns-4 c = size-wrong (c .before .before .before .args .len) (λ B e p h. omega arith)
+
+pub size-of-spec : {M : Type 1} → statement M
+size-of-spec = tie.close (tie.spec returns sub-size returns-2 mul-if3 add-if3 returns-3 returns-4)

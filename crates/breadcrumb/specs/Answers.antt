@@ -1,0 +1,80 @@
+-- The code's answers as document 01 gives them: each case of an answer enum as the machine's `Result`, with its number and values;
+-- and for each call that writes, its answer and the bytes after it.
+use mathlib.Core.Path.{_≡_}
+use Prim.Native.Nat.{ℕ}
+use mathlib.Core.List.{List}
+use Rattle.crumbmap.specs.Layouts.{layout1}
+use Rattle.machine.specs.Results.{Result, accepted, refused, andThen}
+use Rattle.machine.specs.Machine as M
+use Rattle.machine.specs.Calls.{freshOf, insertOf, deleteOf, written, imageOf}
+use Rattle.breadcrumb.specs.declared.Refusal.{Refusal}
+use Rattle.breadcrumb.specs.declared.Refusal.the-variants.{WrongLength, LengthsDiffer, Unsound, Full, Absent, PastEnd, NoRoom, Early}
+use Rattle.breadcrumb.specs.declared.Done.{Done}
+use Rattle.breadcrumb.specs.declared.Done.the-variants as D
+use Rattle.breadcrumb.specs.declared.Changed.{Changed}
+use Rattle.breadcrumb.specs.declared.Changed.the-variants as C
+use Rattle.breadcrumb.specs.declared.Place.{Place}
+use Rattle.breadcrumb.specs.declared.Place.the-variants as P
+use Rattle.breadcrumb.specs.declared.Answer.{Answer}
+use Rattle.breadcrumb.specs.declared.Answer.the-variants as A
+use Rattle.breadcrumb.specs.declared.Tally.{Tally}
+use Rattle.breadcrumb.specs.declared.Tally.the-variants as T
+
+-- "the numbers a caller may get": a refusal's number, and its table number or 0
+abbrev pub refusal : {A : Type 0} → Refusal → Result A
+refusal WrongLength = refused 1 0
+refusal LengthsDiffer = refused 2 0
+refusal (Unsound i) = refused 3 i
+refusal Full = refused 4 0
+refusal Absent = refused 5 0
+refusal PastEnd = refused 6 0
+refusal NoRoom = refused 7 0
+refusal (Early i) = refused 8 i
+
+-- "fresh, check and merge give 0 when accepted"
+abbrev pub doneOf : Done → Result (Unit {0})
+doneOf D.Accepted = accepted tt
+doneOf (D.Refused r) = refusal r
+
+-- "the answer is 0, or 1 + the backyard number"
+abbrev pub changeOf : Changed → Result ℕ
+changeOf (C.Accepted a) = accepted a
+changeOf (C.Refused r) = refusal r
+
+abbrev pub placeOf : Place → M.Place
+placeOf P.Nowhere = M.nowhere
+placeOf (P.Front i) = M.front i
+placeOf (P.First i) = M.first i
+placeOf (P.Second i) = M.second i
+
+abbrev pub askedOf : Answer → Result M.Asked
+askedOf (A.Accepted a) = M.asked (a .reads) (placeOf (a .place))
+askedOf (A.Refused r) = refusal r
+
+abbrev pub countedOf : Tally → Result M.Counted
+countedOf (T.Accepted c) = M.counted (c .reads) (c .copies)
+countedOf (T.Refused r) = refusal r
+
+-- the machine's result without the image
+abbrev pub blank : Result (List ℕ) → Result (Unit {0})
+blank r = andThen r λ _. accepted tt
+
+abbrev pub answerOf : Result M.Change → Result ℕ
+answerOf r = andThen r λ c. accepted (c .answer)
+
+-- a fresh on the image `old`, and the image `new` after it
+pub record Freshens (old : List ℕ) (r : Done) (new : List ℕ) : Type 0 where
+  pub answer : doneOf r ≡ blank (freshOf layout1 old)
+  pub bytes : new ≡ written (freshOf layout1 old) old
+
+-- a call that is `m` on the machine: its answer, and the image `new` after it
+pub record Changes (m : Result M.Change) (old : List ℕ) (r : Changed) (new : List ℕ) : Type 0 where
+  pub answer : changeOf r ≡ answerOf m
+  pub bytes : new ≡ imageOf m old
+
+-- an insert of a hash, and a delete of one
+abbrev pub Inserts : List ℕ → ℕ → Changed → List ℕ → Type 0
+Inserts old k r new = Changes (insertOf layout1 old k) old r new
+
+abbrev pub Deletes : List ℕ → ℕ → Changed → List ℕ → Type 0
+Deletes old k r new = Changes (deleteOf layout1 old k) old r new

@@ -1,0 +1,129 @@
+-- What the private steps of the calls ask and say: the size of an image, and a bucket that was read and found sound.
+use mathlib.Core.Path.{_≡_}
+use Prim.Native.Nat.{ℕ, _+_, _*_, _≤_, _<_}
+use mathlib.Core.List.{List}
+use mathlib.Core.Option.{Option, none, some}
+use lib.ListN.{length}
+use Rattle.multiset.specs.Multisets.{added, removed, slotOf, largest}
+use Rattle.crumbmap.specs.Layouts.{layout1, keys, fronts, backyards}
+use Rattle.crumbmap.specs.Fingerprints.{frontOf, keyOf}
+use Rattle.crumbmap.specs.CrumbMap.{firstBucket, secondBucket}
+use Rattle.crumbmap.specs.declared.Overflow.{Overflow}
+use Rattle.minifilter.specs.Buckets.{frontBytes, FrontList, BackList}
+use Rattle.minifilter.specs.Readings.{frontList, backList, SoundFront, SoundBack}
+use Rattle.minifilter.specs.declared.Reading.{Reading}
+use Rattle.minifilter.specs.declared.Reading.the-variants as R
+use Rattle.machine.specs.Results.{Result, accepted, refused}
+use Rattle.machine.specs.Images.{sizeOf, lengthOf, bucketAt, frontAt, backAt, putFront, putBack}
+use Rattle.machine.specs.Machine.{backyard}
+use Rattle.breadcrumb.specs.declared.Size.{Size}
+use Rattle.breadcrumb.specs.declared.Size.the-variants.{Buckets, Wrong}
+use Rattle.breadcrumb.specs.declared.Target.{Target}
+use Rattle.breadcrumb.specs.declared.Located.{Located}
+use Rattle.breadcrumb.specs.declared.Located.the-variants as L
+use Rattle.breadcrumb.specs.declared.Behind.{Behind}
+use Rattle.breadcrumb.specs.declared.Behind.the-variants as H
+use Rattle.breadcrumb.specs.declared.Sought.{Sought}
+use Rattle.breadcrumb.specs.declared.Sought.the-variants as S
+
+-- a size, or none
+abbrev pub sizing : Option ℕ → Size
+sizing none = Wrong
+sizing (some B) = Buckets B
+
+-- the members of front bucket f, and of backyard bucket j of B, where sound
+abbrev pub inFront : ℕ → List ℕ → List ℕ
+inFront f img = frontList (bucketAt f img)
+
+abbrev pub inBack : ℕ → ℕ → List ℕ → List ℕ
+inBack B j img = backList (bucketAt (fronts B + j) img)
+
+-- the size, front bucket and key of hash k in an image of n bytes
+pub record Locates (n k : ℕ) (t : Target) : Type 0 where
+  pub sized : sizeOf n ≡ some (t .size)
+  pub front : t .front .0 ≡ frontOf (t .size) k
+  pub key : t .key ≡ keyOf layout1 k
+  pub inside : t .front .0 < fronts (t .size)
+  pub low : t .key < keys layout1
+
+abbrev pub LocatedIn : ℕ → ℕ → Located → Type 0
+LocatedIn n k (L.At t) = Locates n k t
+LocatedIn n k L.Wrong = sizeOf n ≡ none
+
+-- an image of size B has a front bucket f
+pub record FrontIn (B f : ℕ) (img : List ℕ) : Type 0 where
+  pub long : length img ≡ lengthOf B
+  pub small : B ≤ 65536
+  pub front : f < fronts B
+
+-- a target that fits an image
+pub record Placed (t : Target) (img : List ℕ) : Type 0 where
+  pub within : FrontIn (t .size) (t .front .0) img
+  pub key : t .key < keys layout1
+
+-- backyard bucket j of an image of size B lies in it
+pub record BackIn (B j : ℕ) (img : List ℕ) : Type 0 where
+  pub small : B ≤ 65536
+  pub bucket : j < backyards B
+  pub inside : 64 * (fronts B + j) + 64 ≤ length img
+
+-- front bucket f was read and is sound
+pub record FrontRead (f : ℕ) (img : List ℕ) : Type 0 where
+  pub inside : 64 * f + 64 ≤ length img
+  pub accepts : frontAt layout1 f img ≡ accepted (inFront f img)
+  pub sound : SoundFront (bucketAt f img)
+  pub list : FrontList layout1 (inFront f img)
+  pub same : frontBytes layout1 (inFront f img) ≡ bucketAt f img
+
+-- backyard bucket j of B was read and is sound
+pub record BackRead (B j : ℕ) (img : List ℕ) : Type 0 where
+  pub within : BackIn B j img
+  pub accepts : backAt layout1 B j img ≡ accepted (inBack B j img)
+  pub sound : SoundBack (bucketAt (fronts B + j) img)
+  pub list : BackList layout1 B j (inBack B j img)
+
+-- what reading a bucket says: how many members, or the refusal with its table number
+abbrev pub FrontSays : ℕ → List ℕ → Reading → Type 0
+FrontSays f img (R.Members n) = FrontRead f img × (length (inFront f img) ≡ n)
+FrontSays f img R.Unsound = frontAt layout1 f img ≡ refused 3 f
+
+abbrev pub BackSays : ℕ → ℕ → List ℕ → Reading → Type 0
+BackSays B j img (R.Members n) = BackRead B j img × (length (inBack B j img) ≡ n)
+BackSays B j img R.Unsound = backAt layout1 B j img ≡ refused 3 (fronts B + j)
+
+-- both backyard buckets of f were read and are sound
+pub record BothRead (B f : ℕ) (img : List ℕ) : Type 0 where
+  pub first : BackRead B (firstBucket f) img
+  pub second : BackRead B (secondBucket B f) img
+
+-- they hold n0 and n1 members
+abbrev pub BehindSays : ℕ → ℕ → List ℕ → Behind → Type 0
+BehindSays B f img (H.Members n0 n1) =
+    BothRead B f img × (length (inBack B (firstBucket f) img) ≡ n0) × (length (inBack B (secondBucket B f) img) ≡ n1)
+BehindSays B f img (H.Unsound i) = backyard layout1 B f img ≡ refused 3 i
+
+-- front bucket f was read and holds 28
+pub record FrontFull (f : ℕ) (img : List ℕ) : Type 0 where
+  pub read : FrontRead f img
+  pub full : length (inFront f img) ≡ 28
+
+-- "Front(f) holds 28 and g exceeds its largest"
+pub record Exceeds (f x : ℕ) (img : List ℕ) : Type 0 where
+  pub whole : FrontFull f img
+  pub over : largest (inFront f img) < x
+
+-- what seeking member y in a backyard bucket finds
+abbrev pub atSlot : Option ℕ → Sought
+atSlot none = S.Absent
+atSlot (some i) = S.At i
+
+abbrev pub soughtIn : ℕ → Result (List ℕ) → Sought
+soughtIn y (accepted ys) = atSlot (slotOf y ys)
+soughtIn y (refused n i) = S.Unsound i
+
+-- the image after the largest of front bucket f and x went to backyard bucket and crumb w
+unfoldable pub overflowed : ℕ → ℕ → ℕ → Overflow → List ℕ → List ℕ
+overflowed B f x w img =
+    let over : ℕ = largest (added x (inFront f img)) in
+    putBack layout1 B (w .bucket .0) (added (over * 16 + w .crumb) (inBack B (w .bucket .0) img))
+    (putFront layout1 f (removed over (added x (inFront f img))) img)

@@ -1,0 +1,85 @@
+// Count: "those in Front(f), 1 read; if Front(f) holds 28 and g is not below its largest, those in First(f) and Second(f) too, 3 reads".
+
+use crate::Behind;
+use crate::Counted;
+use crate::Located;
+use crate::Refusal;
+use crate::Tally;
+use crate::Target;
+use crate::backyard::read_behind;
+use crate::image::find_back_at;
+use crate::image::find_front_at;
+use crate::image::largest_front_at;
+use crate::image::locate;
+use crate::image::read_front_at;
+use crumbmap::Overflow;
+use crumbmap::map::first_of;
+use crumbmap::map::second_of;
+use minifilter::Reading;
+ghost use mathlib.Core.Path.{_≡_};
+ghost use Prim.Native.Nat.{_+_, _*_, _<_, _≤_};
+ghost use Rattle.multiset.specs.Multisets.{copies, largest};
+ghost use Rattle.crumbmap.specs.Layouts.{layout1, keys};
+ghost use Rattle.machine.specs.Machine.{countAt};
+ghost use Rattle.machine.specs.Calls.{countOf};
+ghost use Rattle.breadcrumb.specs.Answers.{countedOf};
+ghost use Rattle.breadcrumb.specs.Steps.{Placed, inFront, inBack, BackRead, FrontFull};
+
+// How many copies of a hash's fingerprint there are, and how many buckets were read to tell.
+pub fn count(image: &[u8], hash: u64) -> Tally
+    ensures { λ r. ⌜ countedOf r ≡ countOf layout1 (now (image .entry)) hash ⌝ }
+{
+    let Located::At(target) = locate(image.len(), hash) else {
+        return Tally::Refused(Refusal::WrongLength);
+    };
+    count_front(image, target)
+}
+
+// The front bucket.
+fn count_front(image: &[u8], target: Target) -> Tally
+    requires { ⌜ Placed target (now image) ⌝ }
+    ensures { λ r. ⌜ countedOf r ≡ countAt layout1 (target .size) (target .front .0) (target .key) (now (image .entry)) ⌝ }
+{
+    let front = target.front;
+    let Reading::Members(n) = read_front_at(image, front) else {
+        return Tally::Refused(Refusal::Unsound(front.0));
+    };
+    let copies = find_front_at(image, front, target.key).copies;
+    if n < 28 {
+        return Tally::Accepted(Counted { copies, reads: 1 });
+    }
+    if target.key < largest_front_at(image, front) {
+        return Tally::Accepted(Counted { copies, reads: 1 });
+    }
+    count_behind(image, target, copies)
+}
+
+// The backyard buckets of a front bucket that holds 28, none larger; `here` copies stand in front.
+fn count_behind(image: &[u8], target: Target, here: usize) -> Tally
+    requires { ⌜ Placed target (now image) × FrontFull (target .front .0) (now image)
+        × (largest (inFront (target .front .0) (now image)) ≤ target .key) × (here ≡ copies (target .key) (inFront (target .front .0) (now image))) ⌝ }
+    ensures { λ r. ⌜ countedOf r ≡ countAt layout1 (target .size) (target .front .0) (target .key) (now (image .entry)) ⌝ }
+{
+    let size = target.size;
+    let front = target.front;
+    let key = target.key;
+    match read_behind(image, size, front) {
+        Behind::Unsound(table) => Tally::Refused(Refusal::Unsound(table)),
+        Behind::Members(_, _) => {
+            let first = copies_at(image, size, first_of(front, size), key);
+            let second = copies_at(image, size, second_of(front, size), key);
+            Tally::Accepted(Counted {
+                copies: here + first + second,
+                reads: 3,
+            })
+        }
+    }
+}
+
+// The copies of a key in a backyard bucket that was read, with the crumb that it carries there.
+fn copies_at(image: &[u8], size: usize, way: Overflow, key: u32) -> usize
+    requires { ⌜ BackRead size (way .bucket .0) (now image) × (way .crumb < 16) × (key < keys layout1) ⌝ }
+    ensures { λ r. ⌜ (r ≡ copies (key * 16 + way .crumb) (inBack size (way .bucket .0) (now (image .entry)))) × (r ≤ 22) ⌝ }
+{
+    find_back_at(image, size, way.bucket, key * 16 + way.crumb).copies
+}

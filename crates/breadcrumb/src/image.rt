@@ -1,0 +1,199 @@
+// The buckets of an image: its size, and one bucket read, searched and written in place.
+// Only these functions reckon where a bucket's 64 bytes lie.
+
+use crate::Located;
+use crate::Size;
+use crate::Target;
+use crumbmap::Backyard;
+use crumbmap::Front;
+use crumbmap::fingerprint::front_of;
+use crumbmap::fingerprint::key_of;
+use minifilter::Carried;
+use minifilter::Found;
+use minifilter::Reading;
+use minifilter::edit::clear;
+use minifilter::edit::insert_back;
+use minifilter::edit::insert_front;
+use minifilter::edit::remove_back;
+use minifilter::edit::remove_front;
+use minifilter::find::find_back;
+use minifilter::find::find_front;
+use minifilter::find::first_carrying;
+use minifilter::find::largest_front;
+use minifilter::read::read_back;
+use minifilter::read::read_front;
+ghost use mathlib.Core.Path.{_≡_};
+ghost use Prim.Native.Nat.{_+_, _*_, _<_, _≤_};
+ghost use mathlib.Core.List.{[]};
+ghost use lib.ListN.{length};
+ghost use Rattle.multiset.specs.Multisets.{added, removed, copies, largest};
+ghost use Rattle.crumbmap.specs.Layouts.{layout1, keys, fronts, backyards};
+ghost use Rattle.minifilter.specs.Buckets.{frontBytes, carrying};
+ghost use Rattle.minifilter.specs.Readings.{FoundIn, firstOf};
+ghost use Rattle.machine.specs.Images.{sizeOf, put, putFront, putBack};
+ghost use Rattle.breadcrumb.specs.Steps.{sizing, LocatedIn, inFront, inBack, BackIn, FrontRead, BackRead, FrontSays, BackSays};
+
+// "A lent byte slice of 576 × B + 448 bytes, B from 1 to 65,536."
+pub(crate) fn size_of(len: usize) -> Size
+    ensures { λ r. ⌜ r ≡ sizing (sizeOf len) ⌝ }
+{
+    if len < 1024 {
+        return Size::Wrong;
+    }
+    let size = (len - 448) / 576;
+    if 65536 < size {
+        return Size::Wrong;
+    }
+    if len == 576 * size + 448 {
+        Size::Buckets(size)
+    } else {
+        Size::Wrong
+    }
+}
+
+// What a hash names in an image of so many bytes.
+pub(crate) fn locate(len: usize, hash: u64) -> Located
+    ensures { λ r. ⌜ LocatedIn len hash r ⌝ }
+{
+    let Size::Buckets(size) = size_of(len) else {
+        return Located::Wrong;
+    };
+    Located::At(Target {
+        size,
+        front: front_of(hash, size),
+        key: key_of(hash),
+    })
+}
+
+// "The table number of backyard bucket j is F + j."
+pub(crate) fn table_of(size: usize, bucket: Backyard) -> usize
+    requires { ⌜ (size ≤ 65536) × (bucket .0 < backyards size) ⌝ }
+    ensures { λ r. ⌜ r ≡ fronts size + bucket .0 ⌝ }
+{
+    let j = bucket.0;
+    8 * size + j
+}
+
+// A front bucket, read whole.
+pub(crate) fn read_front_at(image: &[u8], front: Front) -> Reading
+    requires { ⌜ 64 * front .0 + 64 ≤ length (now image) ⌝ }
+    ensures { λ r. ⌜ FrontSays (front .0) (now (image .entry)) r ⌝ }
+{
+    let f = front.0;
+    let at = 64 * f;
+    let end = at + 64;
+    read_front(&image[at..end])
+}
+
+// A backyard bucket, read whole.
+pub(crate) fn read_back_at(image: &[u8], size: usize, bucket: Backyard) -> Reading
+    requires { ⌜ BackIn size (bucket .0) (now image) ⌝ }
+    ensures { λ r. ⌜ BackSays size (bucket .0) (now (image .entry)) r ⌝ }
+{
+    let at = 64 * table_of(size, bucket);
+    let end = at + 64;
+    read_back(&image[at..end], size, bucket)
+}
+
+// Where a key stands in a sound front bucket.
+pub(crate) fn find_front_at(image: &[u8], front: Front, key: u32) -> Found
+    requires { ⌜ FrontRead (front .0) (now image) × (key < keys layout1) ⌝ }
+    ensures { λ r. ⌜ FoundIn key (inFront (front .0) (now (image .entry))) r ⌝ }
+{
+    let f = front.0;
+    let at = 64 * f;
+    let end = at + 64;
+    find_front(&image[at..end], key)
+}
+
+// The largest key of a sound front bucket that holds 28.
+pub(crate) fn largest_front_at(image: &[u8], front: Front) -> u32
+    requires { ⌜ FrontRead (front .0) (now image) × (length (inFront (front .0) (now image)) ≡ 28) ⌝ }
+    ensures { λ r. ⌜ r ≡ largest (inFront (front .0) (now (image .entry))) ⌝ }
+{
+    let f = front.0;
+    let at = 64 * f;
+    let end = at + 64;
+    largest_front(&image[at..end])
+}
+
+// Where a member stands in a sound backyard bucket.
+pub(crate) fn find_back_at(image: &[u8], size: usize, bucket: Backyard, member: u32) -> Found
+    requires { ⌜ BackRead size (bucket .0) (now image) × (member < keys layout1 * 16) ⌝ }
+    ensures { λ r. ⌜ FoundIn member (inBack size (bucket .0) (now (image .entry))) r ⌝ }
+{
+    let at = 64 * table_of(size, bucket);
+    let end = at + 64;
+    find_back(&image[at..end], member)
+}
+
+// The lowest key that carries a crumb in a sound backyard bucket.
+pub(crate) fn first_carrying_at(image: &[u8], size: usize, bucket: Backyard, crumb: u32) -> Carried
+    requires { ⌜ BackRead size (bucket .0) (now image) × (crumb < 16) ⌝ }
+    ensures { λ r. ⌜ r ≡ firstOf (carrying crumb (inBack size (bucket .0) (now (image .entry)))) ⌝ }
+{
+    let at = 64 * table_of(size, bucket);
+    let end = at + 64;
+    first_carrying(&image[at..end], crumb)
+}
+
+// A key joins a front bucket that has a free slot.
+pub(crate) fn insert_front_at(image: &mut [u8], front: Front, key: u32)
+    requires { ⌜ FrontRead (front .0) (now image) × (length (inFront (front .0) (now image)) < 28) × (key < keys layout1) ⌝ }
+    ensures { λ _. ⌜ now (image .exit) ≡ putFront layout1 (front .0) (added key (inFront (front .0) (now (image .entry)))) (now (image .entry)) ⌝ }
+{
+    let f = front.0;
+    let at = 64 * f;
+    let end = at + 64;
+    insert_front(&mut image[at..end], key);
+}
+
+// One copy of a key that is there leaves a front bucket.
+pub(crate) fn remove_front_at(image: &mut [u8], front: Front, key: u32)
+    requires { ⌜ FrontRead (front .0) (now image) × (0 < copies key (inFront (front .0) (now image))) × (key < keys layout1) ⌝ }
+    ensures { λ _. ⌜ now (image .exit) ≡ putFront layout1 (front .0) (removed key (inFront (front .0) (now (image .entry)))) (now (image .entry)) ⌝ }
+{
+    let f = front.0;
+    let at = 64 * f;
+    let end = at + 64;
+    remove_front(&mut image[at..end], key);
+}
+
+// One copy of a key that is there leaves a front bucket, and another key takes its slot.
+pub(crate) fn swap_front_at(image: &mut [u8], front: Front, from: u32, to: u32)
+    requires { ⌜ FrontRead (front .0) (now image) × (0 < copies from (inFront (front .0) (now image))) × (from < keys layout1) × (to < keys layout1) ⌝ }
+    ensures { λ _. ⌜ now (image .exit) ≡ putFront layout1 (front .0) (added to (removed from (inFront (front .0) (now (image .entry))))) (now (image .entry)) ⌝ }
+{
+    remove_front_at(image, front, from);
+    insert_front_at(image, front, to);
+}
+
+// A member joins a backyard bucket that has a free slot.
+pub(crate) fn insert_back_at(image: &mut [u8], size: usize, bucket: Backyard, member: u32)
+    requires { ⌜ BackRead size (bucket .0) (now image) × (length (inBack size (bucket .0) (now image)) < 22) × (member < keys layout1 * 16) ⌝ }
+    ensures { λ _. ⌜ now (image .exit) ≡ putBack layout1 size (bucket .0) (added member (inBack size (bucket .0) (now (image .entry)))) (now (image .entry)) ⌝ }
+{
+    let at = 64 * table_of(size, bucket);
+    let end = at + 64;
+    insert_back(&mut image[at..end], member);
+}
+
+// One copy of a member that is there leaves a backyard bucket.
+pub(crate) fn remove_back_at(image: &mut [u8], size: usize, bucket: Backyard, member: u32)
+    requires { ⌜ BackRead size (bucket .0) (now image) × (0 < copies member (inBack size (bucket .0) (now image))) × (member < keys layout1 * 16) ⌝ }
+    ensures { λ _. ⌜ now (image .exit) ≡ putBack layout1 size (bucket .0) (removed member (inBack size (bucket .0) (now (image .entry)))) (now (image .entry)) ⌝ }
+{
+    let at = 64 * table_of(size, bucket);
+    let end = at + 64;
+    remove_back(&mut image[at..end], member);
+}
+
+// The bucket of a table number becomes empty.
+pub(crate) fn clear_at(image: &mut [u8], table: usize)
+    requires { ⌜ 64 * table + 64 ≤ length (now image) ⌝ }
+    ensures { λ _. ⌜ now (image .exit) ≡ put table (frontBytes layout1 []) (now (image .entry)) ⌝ }
+{
+    let at = 64 * table;
+    let end = at + 64;
+    clear(&mut image[at..end]);
+}
