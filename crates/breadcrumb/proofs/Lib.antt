@@ -4,4 +4,6 @@ pub mod StepLaws
 pub mod WriteLaws
 pub mod AskLaws
 pub mod InsertLaws
+pub mod LeavingLaws
+pub mod DeleteLaws
 pub mod EmptyLaws

@@ -19,7 +19,7 @@ use Rattle.machine.specs.Results.{Result, accepted, refused, andThen}
 use Rattle.machine.specs.Images.{sized, frontAt, backAt}
 use Rattle.machine.specs.Machine.{Change, backyard}
 use Rattle.breadcrumb.specs.Answers.{Changes}
-use Rattle.breadcrumb.specs.Steps.{sizing, inFront, inBack, Locates, LocatedIn, FrontIn, Placed, BackIn, FrontRead, BackRead, FrontSays, BackSays, BothRead, BehindSays, FrontFull, Exceeds}
+use Rattle.breadcrumb.specs.Steps.{sizing, inFront, inBack, Locates, LocatedIn, FrontIn, Placed, BackIn, FrontRead, BackRead, FrontSays, BackSays, BothRead, BothHold, BehindSays, FrontFull, Exceeds}
 use Rattle.breadcrumb.specs.declared.Changed.{Changed}
 use Rattle.breadcrumb.specs.declared.Size.{Size}
 use Rattle.breadcrumb.specs.declared.Size.the-variants.{Buckets, Wrong}
@@ -85,8 +85,8 @@ module _ (t : Bool) {B f : ℕ} {w : Overflow} (leads : Leads t B f w) (img : Li
 
 -- what reading both backyard buckets said
 module _ (B f : ℕ) (img : List ℕ) {r : Behind} (said : BehindSays B f img r) where
-  pub both-read : {n0 n1 : ℕ} → r ≡ H.Members n0 n1 → BothRead B f img × (length (inBack B (firstBucket f) img) ≡ n0) × (length (inBack B (secondBucket B f) img) ≡ n1)
-  both-read e = rw e at said
+  pub both-hold : {n0 n1 : ℕ} → r ≡ H.Members n0 n1 → BothHold B f img n0 n1
+  both-hold e = rw e at said
 
   pub both-unsound : {i : ℕ} → r ≡ H.Unsound i → backyard layout1 B f img ≡ refused 3 i
   both-unsound e = rw e at said

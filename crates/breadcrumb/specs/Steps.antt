@@ -1,20 +1,22 @@
 -- What the private steps of the calls ask and say: the size of an image, and a bucket that was read and found sound.
 use mathlib.Core.Path.{_≡_}
 use Prim.Native.Nat.{ℕ, _+_, _*_, _≤_, _<_}
-use mathlib.Core.List.{List}
+use mathlib.Core.Bool.{Bool, true, false}
+use mathlib.Core.List.{List, [], _∷_}
 use mathlib.Core.Option.{Option, none, some}
 use lib.ListN.{length}
-use Rattle.multiset.specs.Multisets.{added, removed, slotOf, largest}
+use Rattle.multiset.specs.Multisets.{added, removed, copies, slotOf, largest}
 use Rattle.crumbmap.specs.Layouts.{layout1, keys, fronts, backyards}
 use Rattle.crumbmap.specs.Fingerprints.{frontOf, keyOf}
-use Rattle.crumbmap.specs.CrumbMap.{firstBucket, secondBucket}
+use Rattle.crumbmap.specs.CrumbMap.{firstBucket, secondBucket, firstCrumb, secondCrumb, bucketOf, crumbOf}
 use Rattle.crumbmap.specs.declared.Overflow.{Overflow}
-use Rattle.minifilter.specs.Buckets.{frontBytes, FrontList, BackList}
+use Rattle.minifilter.specs.Buckets.{frontBytes, carrying, FrontList, BackList}
 use Rattle.minifilter.specs.Readings.{frontList, backList, SoundFront, SoundBack}
 use Rattle.minifilter.specs.declared.Reading.{Reading}
 use Rattle.minifilter.specs.declared.Reading.the-variants as R
 use Rattle.machine.specs.Results.{Result, accepted, refused}
 use Rattle.machine.specs.Images.{sizeOf, lengthOf, bucketAt, frontAt, backAt, putFront, putBack}
+use Rattle.machine.specs.Bags.{addedAll, has, fromFirst}
 use Rattle.machine.specs.Machine.{backyard}
 use Rattle.breadcrumb.specs.declared.Size.{Size}
 use Rattle.breadcrumb.specs.declared.Size.the-variants.{Buckets, Wrong}
@@ -23,6 +25,8 @@ use Rattle.breadcrumb.specs.declared.Located.{Located}
 use Rattle.breadcrumb.specs.declared.Located.the-variants as L
 use Rattle.breadcrumb.specs.declared.Behind.{Behind}
 use Rattle.breadcrumb.specs.declared.Behind.the-variants as H
+use Rattle.breadcrumb.specs.declared.Leaving.{Leaving}
+use Rattle.breadcrumb.specs.declared.Leaving.the-variants as W
 use Rattle.breadcrumb.specs.declared.Sought.{Sought}
 use Rattle.breadcrumb.specs.declared.Sought.the-variants as S
 
@@ -97,9 +101,14 @@ pub record BothRead (B f : ℕ) (img : List ℕ) : Type 0 where
   pub second : BackRead B (secondBucket B f) img
 
 -- they hold n0 and n1 members
+pub record BothHold (B f : ℕ) (img : List ℕ) (n0 n1 : ℕ) : Type 0 where
+  pub read : BothRead B f img
+  pub first : length (inBack B (firstBucket f) img) ≡ n0
+  pub second : length (inBack B (secondBucket B f) img) ≡ n1
+
+-- what reading both says
 abbrev pub BehindSays : ℕ → ℕ → List ℕ → Behind → Type 0
-BehindSays B f img (H.Members n0 n1) =
-    BothRead B f img × (length (inBack B (firstBucket f) img) ≡ n0) × (length (inBack B (secondBucket B f) img) ≡ n1)
+BehindSays B f img (H.Members n0 n1) = BothHold B f img n0 n1
 BehindSays B f img (H.Unsound i) = backyard layout1 B f img ≡ refused 3 i
 
 -- front bucket f was read and holds 28
@@ -127,3 +136,54 @@ overflowed B f x w img =
     let over : ℕ = largest (added x (inFront f img)) in
     putBack layout1 B (w .bucket .0) (added (over * 16 + w .crumb) (inBack B (w .bucket .0) img))
     (putFront layout1 f (removed over (added x (inFront f img))) img)
+
+-- First(f), Second(f), and both together
+abbrev pub inFirst : ℕ → ℕ → List ℕ → List ℕ
+inFirst B f img = carrying (firstCrumb f) (inBack B (firstBucket f) img)
+
+abbrev pub inSecond : ℕ → ℕ → List ℕ → List ℕ
+inSecond B f img = carrying (secondCrumb f) (inBack B (secondBucket B f) img)
+
+abbrev pub inBoth : ℕ → ℕ → List ℕ → List ℕ
+inBoth B f img = addedAll (inFirst B f img) (inSecond B f img)
+
+-- "a value standing in both First and Second is taken from First if n0 > n1, else from Second"
+abbrev pub firstly : ℕ → ℕ → ℕ → List ℕ → Bool
+firstly B f v img = fromFirst v (inFirst B f img) (inSecond B f img) (length (inBack B (firstBucket f) img)) (length (inBack B (secondBucket B f) img))
+
+-- v leaves the backyard bucket of choice t
+pub record Leaves (t : Bool) (B f v : ℕ) (img : List ℕ) : Type 0 where
+  pub choice : firstly B f v img ≡ t
+  pub there : 0 < copies (v * 16 + crumbOf t f) (inBack B (bucketOf t B f) img)
+  pub key : v < keys layout1
+
+-- the smallest of First(f) and Second(f)
+pub record Least (t : Bool) (B f v : ℕ) (img : List ℕ) : Type 0 where
+  pub leaves : Leaves t B f v img
+  pub rest : List ℕ
+  pub head : inBoth B f img ≡ v ∷ rest
+
+abbrev pub LeastSays : ℕ → ℕ → List ℕ → Leaving → Type 0
+LeastSays B f img (W.First v) = Least true B f v img
+LeastSays B f img (W.Second v) = Least false B f v img
+LeastSays B f img W.Nothing = inBoth B f img ≡ []
+
+-- a copy of x in First(f) or Second(f)
+pub record Copy (t : Bool) (B f x : ℕ) (img : List ℕ) (v : ℕ) : Type 0 where
+  pub same : v ≡ x
+  pub leaves : Leaves t B f x img
+  pub there : has x (inBoth B f img) ≡ true
+
+abbrev pub CopySays : ℕ → ℕ → ℕ → List ℕ → Leaving → Type 0
+CopySays B f x img (W.First v) = Copy true B f x img v
+CopySays B f x img (W.Second v) = Copy false B f x img v
+CopySays B f x img W.Nothing = has x (inBoth B f img) ≡ false
+
+-- the image after v left backyard bucket and crumb w
+unfoldable pub takenOut : ℕ → ℕ → Overflow → List ℕ → List ℕ
+takenOut B v w img = putBack layout1 B (w .bucket .0) (removed (v * 16 + w .crumb) (inBack B (w .bucket .0) img)) img
+
+-- and after v also took the slot of a copy of x in front bucket f
+unfoldable pub refilled : ℕ → ℕ → ℕ → ℕ → Overflow → List ℕ → List ℕ
+refilled B f x v w img =
+    putBack layout1 B (w .bucket .0) (removed (v * 16 + w .crumb) (inBack B (w .bucket .0) img)) (putFront layout1 f (added v (removed x (inFront f img))) img)

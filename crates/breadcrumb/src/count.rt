@@ -6,24 +6,23 @@ use crate::Located;
 use crate::Refusal;
 use crate::Tally;
 use crate::Target;
+use crate::backyard::copies_at;
 use crate::backyard::read_behind;
-use crate::image::find_back_at;
 use crate::image::find_front_at;
 use crate::image::largest_front_at;
 use crate::image::locate;
 use crate::image::read_front_at;
-use crumbmap::Overflow;
 use crumbmap::map::first_of;
 use crumbmap::map::second_of;
 use minifilter::Reading;
 ghost use mathlib.Core.Path.{_≡_};
-ghost use Prim.Native.Nat.{_+_, _*_, _<_, _≤_};
+ghost use Prim.Native.Nat.{_≤_};
 ghost use Rattle.multiset.specs.Multisets.{copies, largest};
-ghost use Rattle.crumbmap.specs.Layouts.{layout1, keys};
+ghost use Rattle.crumbmap.specs.Layouts.{layout1};
 ghost use Rattle.machine.specs.Machine.{countAt};
 ghost use Rattle.machine.specs.Calls.{countOf};
 ghost use Rattle.breadcrumb.specs.Answers.{countedOf};
-ghost use Rattle.breadcrumb.specs.Steps.{Placed, inFront, inBack, BackRead, FrontFull};
+ghost use Rattle.breadcrumb.specs.Steps.{Placed, inFront, FrontFull};
 
 // How many copies of a hash's fingerprint there are, and how many buckets were read to tell.
 pub fn count(image: &[u8], hash: u64) -> Tally
@@ -74,12 +73,4 @@ fn count_behind(image: &[u8], target: Target, here: usize) -> Tally
             })
         }
     }
-}
-
-// The copies of a key in a backyard bucket that was read, with the crumb that it carries there.
-fn copies_at(image: &[u8], size: usize, way: Overflow, key: u32) -> usize
-    requires { ⌜ BackRead size (way .bucket .0) (now image) × (way .crumb < 16) × (key < keys layout1) ⌝ }
-    ensures { λ r. ⌜ (r ≡ copies (key * 16 + way .crumb) (inBack size (way .bucket .0) (now (image .entry)))) × (r ≤ 22) ⌝ }
-{
-    find_back_at(image, size, way.bucket, key * 16 + way.crumb).copies
 }

@@ -4,6 +4,7 @@
 pub mod ask;
 mod backyard;
 pub mod count;
+pub mod delete;
 pub mod fresh;
 mod image;
 pub mod insert;
@@ -96,4 +97,11 @@ pub(crate) enum Sought {
     At(usize),
     Absent,
     Unsound(usize),
+}
+
+// The key of a member that leaves the backyard, from First(f) or from Second(f), or that none does.
+pub(crate) enum Leaving {
+    First(u32),
+    Second(u32),
+    Nothing,
 }

@@ -70,7 +70,7 @@ returns-3 c =
     let img = c .before .before .before .before .before .before .before .before .before .before .before .before .before .args .image .now in
     let r = way-read true (c .before .before .before .before .before .before .before .before .before .before .before .first-of .ensures) img (c .before .before .before .before .before .before .before .before .before .read-back-at .ensures) (c .before .before .before .before .before .before .before .n0 .given .1) in
     let s = way-read false (c .before .before .before .before .before .second-of .ensures) img (c .before .before .before .read-back-at2 .ensures) (c .before .n1 .given .1) in
-    (record { first = r .0; second = s .0 }, r .1, s .1)
+    record { read = record { first = r .0; second = s .0 }; first = r .1; second = s .1 }
 
 pub read-behind-spec : {M : Type 1} → statement M
 read-behind-spec =

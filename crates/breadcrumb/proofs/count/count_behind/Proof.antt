@@ -5,7 +5,7 @@ use lib.ListN.{length}
 use borrow.Author.Tests.{eq-eqb, le-leb}
 use Rattle.multiset.specs.Multisets.{largest}
 use Rattle.multiset.proofs.MultisetLaws.{copies-le-length}
-use Rattle.breadcrumb.proofs.StepLaws.{both-read, both-unsound, both-accepts, chosen-way}
+use Rattle.breadcrumb.proofs.StepLaws.{both-hold, both-unsound, both-accepts, chosen-way}
 use Rattle.machine.specs.Machine.{countAt}
 use Rattle.breadcrumb.specs.Steps.{inFront, BothRead}
 use Rattle.breadcrumb.proofs.count.count_behind.Statement.{statement}
@@ -13,7 +13,7 @@ use Rattle.breadcrumb.proofs.count.count_behind.Tie as tie
 use Rattle.breadcrumb.proofs.count.count_behind.Reads as reads
 use Rattle.breadcrumb.proofs.count.count_behind.Lts as lts
 use Rattle.breadcrumb.proofs.backyard.read_behind.Reads as read-behind-reads
-use Rattle.breadcrumb.proofs.count.copies_at.Reads as copies-at-reads
+use Rattle.breadcrumb.proofs.backyard.copies_at.Reads as copies-at-reads
 use Rattle.crumbmap.proofs.map.first_of.Reads as first-of-reads
 use Rattle.crumbmap.proofs.map.second_of.Reads as second-of-reads
 
@@ -31,7 +31,7 @@ enum-told c = search needs
 
 -- both backyard buckets were read
 both : (c : tie.After-enum-told) → BothRead (c .before .before .before .before .before .args .target .size) (c .before .before .before .before .before .args .target .front .0) (c .before .before .before .before .before .args .image .now)
-both c = both-read (c .before .before .before .before .before .args .target .size) (c .before .before .before .before .before .args .target .front .0) (c .before .before .before .before .before .args .image .now) (c .before .before .read-behind .ensures) (c .enum-told .given .1) .0
+both c = both-hold (c .before .before .before .before .before .args .target .size) (c .before .before .before .before .before .args .target .front .0) (c .before .before .before .before .before .args .image .now) (c .before .before .read-behind .ensures) (c .enum-told .given .1) .read
 
 -- src/count.rt:69:48
 first-of-requires : tie.Need-first-of-requires

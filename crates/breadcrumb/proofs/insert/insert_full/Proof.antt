@@ -5,8 +5,8 @@ use native.Mathlib.Omega.{arith}
 use lib.ListN.{length}
 use borrow.Author.Tests.{lt-ltb, le-ltb}
 use Rattle.crumbmap.specs.CrumbMap.{firstBucket, secondBucket}
-use Rattle.breadcrumb.specs.Steps.{inBack, BothRead}
-use Rattle.breadcrumb.proofs.StepLaws.{both-read, both-unsound, chosen-way, changes}
+use Rattle.breadcrumb.specs.Steps.{inBack, BothHold}
+use Rattle.breadcrumb.proofs.StepLaws.{both-hold, both-unsound, chosen-way, changes}
 use Rattle.breadcrumb.proofs.InsertLaws.{insert-unsound, insert-stuck, insert-over, room-first, room-second, room-left}
 use Rattle.breadcrumb.proofs.insert.insert_full.Statement.{statement}
 use Rattle.breadcrumb.proofs.insert.insert_full.Tie as tie
@@ -34,10 +34,9 @@ first-of-requires : tie.Need-first-of-requires
 first-of-requires c κs = search needs
 
 -- both backyard buckets were read
-both : (c : tie.After-known-told2) → BothRead (c .before .before .before .before .before .before .before .args .target .size) (c .before .before .before .before .before .before .before .args .target .front .0) (c .before .before .before .before .before .before .before .args .image .now)
-    × (length (inBack (c .before .before .before .before .before .before .before .args .target .size) (firstBucket (c .before .before .before .before .before .before .before .args .target .front .0)) (c .before .before .before .before .before .before .before .args .image .now)) ≡ c .before .n0 .given .0 .0)
-    × (length (inBack (c .before .before .before .before .before .before .before .args .target .size) (secondBucket (c .before .before .before .before .before .before .before .args .target .size) (c .before .before .before .before .before .before .before .args .target .front .0)) (c .before .before .before .before .before .before .before .args .image .now)) ≡ c .before .n0 .given .0 .1 .0)
-both c = both-read (c .before .before .before .before .before .before .before .args .target .size) (c .before .before .before .before .before .before .before .args .target .front .0) (c .before .before .before .before .before .before .before .args .image .now) (c .before .before .before .read-behind .ensures) (c .before .n0 .given .1)
+both : (c : tie.After-known-told2) → BothHold (c .before .before .before .before .before .before .before .args .target .size) (c .before .before .before .before .before .before .before .args .target .front .0)
+    (c .before .before .before .before .before .before .before .args .image .now) (c .before .n0 .given .0 .0) (c .before .n0 .given .0 .1 .0)
+both c = both-hold (c .before .before .before .before .before .before .before .args .target .size) (c .before .before .before .before .before .before .before .args .target .front .0) (c .before .before .before .before .before .before .before .args .image .now) (c .before .before .before .read-behind .ensures) (c .before .n0 .given .1)
 
 -- src/insert.rt:66:42
 overflow-to-requires : tie.Need-overflow-to-requires
@@ -46,7 +45,7 @@ overflow-to-requires c κs =
     let t = s .args .target in
     let b = both (c .before .before .before) in
     let l = c .before .first-of .ensures in
-    (s .pre .0, s .pre .1, chosen-way (b .0) true l, rw (l .bucket) (omega (arith, b .1, b .2, b .0 .second .list .room)), l .small)
+    (s .pre .0, s .pre .1, chosen-way (b .read) true l, rw (l .bucket) (omega (arith, b .first, b .second, b .read .second .list .room)), l .small)
 
 -- src/insert.rt:66:17
 same-length : tie.Need-same-length
@@ -62,7 +61,7 @@ returns c =
     let l = c .before .before .before .before .first-of .ensures in
     let n = length (inBack (t .size) (firstBucket (t .front .0)) (s .args .image .now)) in
     let m = length (inBack (t .size) (secondBucket (t .size) (t .front .0)) (s .args .image .now)) in
-    changes (insert-over (t .size) (t .front .0) (t .key) (s .args .image .now) (s .pre .1) (b .0) true l (room-first n m (λ q. omega (arith, b .1, b .2, b .0 .second .list .room))) (lt-ltb n m (omega (arith, b .1, b .2))))
+    changes (insert-over (t .size) (t .front .0) (t .key) (s .args .image .now) (s .pre .1) (b .read) true l (room-first n m (λ q. omega (arith, b .first, b .second, b .read .second .list .room))) (lt-ltb n m (omega (arith, b .first, b .second))))
     (record { answer = rw (e .0); bytes = e .1 })
 
 -- src/insert.rt:69:17
@@ -75,7 +74,7 @@ returns-2 c =
     let s = c .before .before .before .before .before .before .before .before .before in
     let t = s .args .target in
     let b = both (c .before .before) in
-    changes (insert-stuck (t .size) (t .front .0) (t .key) (s .args .image .now) (s .pre .1) (b .0) (omega (arith, b .1, b .2, b .0 .first .list .room)) (omega (arith, b .2)))
+    changes (insert-stuck (t .size) (t .front .0) (t .key) (s .args .image .now) (s .pre .1) (b .read) (omega (arith, b .first, b .second, b .read .first .list .room)) (omega (arith, b .second)))
     (record { answer = refl; bytes = refl })
 
 -- src/insert.rt:71:17
@@ -90,7 +89,7 @@ overflow-to-requires-2 c κs =
     let b = both (c .before .before .before .before) in
     let l = c .before .second-of .ensures in
     let q2 = c .before .before .if2 .left in
-    (s .pre .0, s .pre .1, chosen-way (b .0) false l, rw (l .bucket) (room-left (b .0 .second .list .room) (λ q. q2 (omega (arith, q, b .2)))), l .small)
+    (s .pre .0, s .pre .1, chosen-way (b .read) false l, rw (l .bucket) (room-left (b .read .second .list .room) (λ q. q2 (omega (arith, q, b .second)))), l .small)
 
 -- src/insert.rt:55:1
 same-length-3 : tie.Need-same-length-3
@@ -118,7 +117,7 @@ returns-4 c =
     let l = c .before .before .before .before .second-of .ensures in
     let n = length (inBack (t .size) (firstBucket (t .front .0)) (s .args .image .now)) in
     let m = length (inBack (t .size) (secondBucket (t .size) (t .front .0)) (s .args .image .now)) in
-    changes (insert-over (t .size) (t .front .0) (t .key) (s .args .image .now) (s .pre .1) (b .0) false l (room-second n m (λ q. c .before .before .before .before .before .if2 .left (omega (arith, q, b .2)))) (le-ltb n m (omega (arith, b .1, b .2))))
+    changes (insert-over (t .size) (t .front .0) (t .key) (s .args .image .now) (s .pre .1) (b .read) false l (room-second n m (λ q. c .before .before .before .before .before .if2 .left (omega (arith, q, b .second)))) (le-ltb n m (omega (arith, b .first, b .second))))
     (record { answer = rw (e .0); bytes = e .1 })
 
 pub insert-full-spec : {M : Type 1} → statement M

@@ -3,10 +3,10 @@ use native.Mathlib.Omega.{arith}
 use Prim.Native.Nat.{_+_, _*_}
 use Rattle.multiset.proofs.MultisetLaws.{copies-le-length}
 use Rattle.breadcrumb.specs.Steps.{inBack}
-use Rattle.breadcrumb.proofs.count.copies_at.Statement.{statement}
-use Rattle.breadcrumb.proofs.count.copies_at.Tie as tie
-use Rattle.breadcrumb.proofs.count.copies_at.Reads as reads
-use Rattle.breadcrumb.proofs.count.copies_at.Lts as lts
+use Rattle.breadcrumb.proofs.backyard.copies_at.Statement.{statement}
+use Rattle.breadcrumb.proofs.backyard.copies_at.Tie as tie
+use Rattle.breadcrumb.proofs.backyard.copies_at.Reads as reads
+use Rattle.breadcrumb.proofs.backyard.copies_at.Lts as lts
 use Rattle.breadcrumb.proofs.image.find_back_at.Reads as find-back-at-reads
 
 -- src/count.rt:84:43

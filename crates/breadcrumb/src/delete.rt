@@ -1,0 +1,216 @@
+// Delete: "If g is in Front(f), one copy goes. If Front(f) held 28, b0 and b1 are read and the smallest member of First(f) and
+// Second(f), if any, refills it. If g is not in Front(f), and Front(f) holds 28 and g exceeds its largest, b0 and b1 are read and
+// one copy goes from there; else absent."
+
+use crate::Behind;
+use crate::Changed;
+use crate::Leaving;
+use crate::Located;
+use crate::Refusal;
+use crate::Target;
+use crate::backyard::copies_at;
+use crate::backyard::read_behind;
+use crate::image::find_front_at;
+use crate::image::first_carrying_at;
+use crate::image::largest_front_at;
+use crate::image::locate;
+use crate::image::read_front_at;
+use crate::image::remove_back_at;
+use crate::image::remove_front_at;
+use crate::image::swap_front_at;
+use crumbmap::Front;
+use crumbmap::Overflow;
+use crumbmap::map::first_of;
+use crumbmap::map::second_of;
+use minifilter::Carried;
+use minifilter::Reading;
+ghost use mathlib.Core.Path.{_≡_};
+ghost use Prim.Native.Nat.{_+_, _*_, _<_};
+ghost use lib.ListN.{length};
+ghost use Rattle.multiset.specs.Multisets.{copies};
+ghost use Rattle.crumbmap.specs.Layouts.{layout1, keys};
+ghost use Rattle.crumbmap.specs.CrumbMap.{firstBucket, secondBucket};
+ghost use Rattle.machine.specs.Machine.{deleteAt};
+ghost use Rattle.breadcrumb.specs.Answers.{Changes, Deletes};
+ghost use Rattle.breadcrumb.specs.Steps.{FrontIn, Placed, inFront, inBack, FrontRead, BackRead, FrontFull, Exceeds, BothHold, LeastSays, CopySays, takenOut, refilled};
+
+// One copy less of a hash's fingerprint.
+pub fn delete(image: &mut [u8], hash: u64) -> Changed
+    ensures { λ r. ⌜ Deletes (now (image .entry)) hash r (now (image .exit)) ⌝ }
+{
+    let Located::At(target) = locate(image.len(), hash) else {
+        return Changed::Refused(Refusal::WrongLength);
+    };
+    delete_at(image, target)
+}
+
+// The copy stands in the front bucket, or not.
+fn delete_at(image: &mut [u8], target: Target) -> Changed
+    requires { ⌜ Placed target (now image) ⌝ }
+    ensures { λ r. ⌜ Changes (deleteAt layout1 (target .size) (target .front .0) (target .key) (now (image .entry))) (now (image .entry)) r (now (image .exit)) ⌝ }
+{
+    let front = target.front;
+    let Reading::Members(n) = read_front_at(image, front) else {
+        return Changed::Refused(Refusal::Unsound(front.0));
+    };
+    if find_front_at(image, front, target.key).copies == 0 {
+        return delete_other(image, target, n);
+    }
+    if n < 28 {
+        remove_front_at(image, front, target.key);
+        return Changed::Accepted(0);
+    }
+    refill(image, target)
+}
+
+// A copy leaves a front bucket that holds 28: the smallest member behind takes its slot.
+fn refill(image: &mut [u8], target: Target) -> Changed
+    requires { ⌜ Placed target (now image) × FrontFull (target .front .0) (now image) × (0 < copies (target .key) (inFront (target .front .0) (now image))) ⌝ }
+    ensures { λ r. ⌜ Changes (deleteAt layout1 (target .size) (target .front .0) (target .key) (now (image .entry))) (now (image .entry)) r (now (image .exit)) ⌝ }
+{
+    let size = target.size;
+    let front = target.front;
+    match read_behind(image, size, front) {
+        Behind::Unsound(table) => Changed::Refused(Refusal::Unsound(table)),
+        Behind::Members(n0, n1) => match least_behind(image, size, front, n0, n1) {
+            Leaving::First(key) => Changed::Accepted(refill_from(
+                image,
+                target,
+                first_of(front, size),
+                key,
+            )),
+            Leaving::Second(key) => Changed::Accepted(refill_from(
+                image,
+                target,
+                second_of(front, size),
+                key,
+            )),
+            Leaving::Nothing => {
+                remove_front_at(image, front, target.key);
+                Changed::Accepted(0)
+            }
+        },
+    }
+}
+
+// A member of a backyard bucket takes the slot of the copy that leaves in front.
+fn refill_from(image: &mut [u8], target: Target, way: Overflow, key: u32) -> usize
+    requires { ⌜ Placed target (now image) × FrontRead (target .front .0) (now image) × (0 < copies (target .key) (inFront (target .front .0) (now image)))
+        × BackRead (target .size) (way .bucket .0) (now image) × (0 < copies (key * 16 + way .crumb) (inBack (target .size) (way .bucket .0) (now image)))
+        × (way .crumb < 16) × (key < keys layout1) ⌝ }
+    ensures { λ r. ⌜ (r ≡ 1 + way .bucket .0)
+        × (now (image .exit) ≡ refilled (target .size) (target .front .0) (target .key) key way (now (image .entry))) ⌝ }
+{
+    swap_front_at(image, target.front, target.key, key);
+    take_out(image, target.size, way, key)
+}
+
+// The smallest member of First(f) and Second(f). "A value standing in both is taken from First if n0 > n1, else from Second."
+fn least_behind(image: &[u8], size: usize, front: Front, n0: usize, n1: usize) -> Leaving
+    requires { ⌜ FrontIn size (front .0) (now image) × BothHold size (front .0) (now image) n0 n1 ⌝ }
+    ensures { λ r. ⌜ LeastSays size (front .0) (now (image .entry)) r ⌝ }
+{
+    let first = first_of(front, size);
+    let second = second_of(front, size);
+    let in_first = first_carrying_at(image, size, first.bucket, first.crumb);
+    let in_second = first_carrying_at(image, size, second.bucket, second.crumb);
+    let Carried::Key(a) = in_first else {
+        let Carried::Key(b) = in_second else {
+            return Leaving::Nothing;
+        };
+        return Leaving::Second(b);
+    };
+    let Carried::Key(b) = in_second else {
+        return Leaving::First(a);
+    };
+    if a < b {
+        return Leaving::First(a);
+    }
+    if b < a {
+        return Leaving::Second(b);
+    }
+    if n1 < n0 {
+        Leaving::First(a)
+    } else {
+        Leaving::Second(b)
+    }
+}
+
+// No copy in front: one may stand behind a front bucket that holds 28, all smaller.
+fn delete_other(image: &mut [u8], target: Target, n: usize) -> Changed
+    requires { ⌜ Placed target (now image) × FrontRead (target .front .0) (now image) × (length (inFront (target .front .0) (now image)) ≡ n)
+        × (copies (target .key) (inFront (target .front .0) (now image)) ≡ 0) ⌝ }
+    ensures { λ r. ⌜ Changes (deleteAt layout1 (target .size) (target .front .0) (target .key) (now (image .entry))) (now (image .entry)) r (now (image .exit)) ⌝ }
+{
+    if n < 28 {
+        return Changed::Refused(Refusal::Absent);
+    }
+    if target.key <= largest_front_at(image, target.front) {
+        return Changed::Refused(Refusal::Absent);
+    }
+    delete_behind(image, target)
+}
+
+// A copy leaves First(f) or Second(f).
+fn delete_behind(image: &mut [u8], target: Target) -> Changed
+    requires { ⌜ Placed target (now image) × Exceeds (target .front .0) (target .key) (now image) ⌝ }
+    ensures { λ r. ⌜ Changes (deleteAt layout1 (target .size) (target .front .0) (target .key) (now (image .entry))) (now (image .entry)) r (now (image .exit)) ⌝ }
+{
+    let size = target.size;
+    let front = target.front;
+    match read_behind(image, size, front) {
+        Behind::Unsound(table) => Changed::Refused(Refusal::Unsound(table)),
+        Behind::Members(n0, n1) => match copy_behind(image, target, n0, n1) {
+            Leaving::First(key) => Changed::Accepted(take_out(
+                image,
+                size,
+                first_of(front, size),
+                key,
+            )),
+            Leaving::Second(key) => Changed::Accepted(take_out(
+                image,
+                size,
+                second_of(front, size),
+                key,
+            )),
+            Leaving::Nothing => Changed::Refused(Refusal::Absent),
+        },
+    }
+}
+
+// Where a copy of the key leaves from, by the same rule.
+fn copy_behind(image: &[u8], target: Target, n0: usize, n1: usize) -> Leaving
+    requires { ⌜ Placed target (now image) × BothHold (target .size) (target .front .0) (now image) n0 n1 ⌝ }
+    ensures { λ r. ⌜ CopySays (target .size) (target .front .0) (target .key) (now (image .entry)) r ⌝ }
+{
+    let size = target.size;
+    let front = target.front;
+    let key = target.key;
+    let in_first = copies_at(image, size, first_of(front, size), key);
+    let in_second = copies_at(image, size, second_of(front, size), key);
+    if in_first == 0 {
+        if in_second == 0 {
+            return Leaving::Nothing;
+        }
+        return Leaving::Second(key);
+    }
+    if in_second == 0 {
+        return Leaving::First(key);
+    }
+    if n1 < n0 {
+        Leaving::First(key)
+    } else {
+        Leaving::Second(key)
+    }
+}
+
+// One copy of a key leaves a backyard bucket, with the crumb that it carries there.
+fn take_out(image: &mut [u8], size: usize, way: Overflow, key: u32) -> usize
+    requires { ⌜ BackRead size (way .bucket .0) (now image) × (0 < copies (key * 16 + way .crumb) (inBack size (way .bucket .0) (now image)))
+        × (way .crumb < 16) × (key < keys layout1) ⌝ }
+    ensures { λ r. ⌜ (r ≡ 1 + way .bucket .0) × (now (image .exit) ≡ takenOut size key way (now (image .entry))) ⌝ }
+{
+    let bucket = way.bucket;
+    remove_back_at(image, size, bucket, key * 16 + way.crumb);
+    1 + bucket.0
+}
