@@ -7,3 +7,6 @@ pub mod InsertLaws
 pub mod LeavingLaws
 pub mod DeleteLaws
 pub mod EmptyLaws
+pub mod ListLaws
+pub mod ListingLaws
+pub mod PageLaws

@@ -3,10 +3,12 @@
 use mathlib.Core.Path.{_≡_}
 use Prim.Native.Nat.{ℕ}
 use mathlib.Core.List.{List}
+use lib.ListN.{length}
 use Rattle.crumbmap.specs.Layouts.{layout1}
 use Rattle.machine.specs.Results.{Result, accepted, refused, andThen}
 use Rattle.machine.specs.Machine as M
-use Rattle.machine.specs.Calls.{freshOf, insertOf, deleteOf, written, imageOf}
+use Rattle.machine.specs.Pages.{Run}
+use Rattle.machine.specs.Calls.{freshOf, insertOf, deleteOf, pageOf, written, imageOf, outputOf}
 use Rattle.breadcrumb.specs.declared.Refusal.{Refusal}
 use Rattle.breadcrumb.specs.declared.Refusal.the-variants.{WrongLength, LengthsDiffer, Unsound, Full, Absent, PastEnd, NoRoom, Early}
 use Rattle.breadcrumb.specs.declared.Done.{Done}
@@ -19,6 +21,8 @@ use Rattle.breadcrumb.specs.declared.Answer.{Answer}
 use Rattle.breadcrumb.specs.declared.Answer.the-variants as A
 use Rattle.breadcrumb.specs.declared.Tally.{Tally}
 use Rattle.breadcrumb.specs.declared.Tally.the-variants as T
+use Rattle.breadcrumb.specs.declared.Paged.{Paged}
+use Rattle.breadcrumb.specs.declared.Paged.the-variants as G
 
 -- "the numbers a caller may get": a refusal's number, and its table number or 0
 abbrev pub refusal : {A : Type 0} → Refusal → Result A
@@ -78,3 +82,21 @@ Inserts old k r new = Changes (insertOf layout1 old k) old r new
 
 abbrev pub Deletes : List ℕ → ℕ → Changed → List ℕ → Type 0
 Deletes old k r new = Changes (deleteOf layout1 old k) old r new
+
+-- a page "gives how many and the next bucket"
+abbrev pub pagedOf : Paged → Result (ℕ × ℕ)
+pagedOf (G.Accepted n next) = accepted (n, next)
+pagedOf (G.Refused r) = refusal r
+
+-- the machine's result without the entries
+abbrev pub extentOf : Result Run → Result (ℕ × ℕ)
+extentOf r = andThen r λ s. accepted (length (s .entries), s .next)
+
+-- a call that gives the run `m` on the machine: its answer, and the output `new` after it
+pub record Writes (m : Result Run) (old : List ℕ) (r : Paged) (new : List ℕ) : Type 0 where
+  pub answer : pagedOf r ≡ extentOf m
+  pub bytes : new ≡ outputOf m old
+
+-- a page of an image from bucket s into the output `old`
+abbrev pub Pages : List ℕ → ℕ → List ℕ → Paged → List ℕ → Type 0
+Pages img s old r new = Writes (pageOf layout1 img s (length old)) old r new

@@ -1,3 +1,4 @@
 -- What the calls' contracts say: answers as document 01 gives them, and what the steps of a call ask and say.
 pub mod Answers
 pub mod Steps
+pub mod Listings

@@ -8,6 +8,9 @@ pub mod delete;
 pub mod fresh;
 mod image;
 pub mod insert;
+mod listing;
+mod lists;
+pub mod page;
 
 use crumbmap::Front;
 
@@ -80,6 +83,12 @@ pub(crate) enum Located {
     Wrong,
 }
 
+// What a page gives: how many, and "the next bucket".
+pub enum Paged {
+    Accepted(usize, usize),
+    Refused(Refusal),
+}
+
 // An image's size B, or that no image has this length.
 pub(crate) enum Size {
     Buckets(usize),
@@ -104,4 +113,16 @@ pub(crate) enum Leaving {
     First(u32),
     Second(u32),
     Nothing,
+}
+
+// How many members a front bucket has with those behind it, or the table number of the first bucket that is unsound.
+pub(crate) enum Held {
+    Members(usize),
+    Unsound(usize),
+}
+
+// How far a run of whole buckets goes: the next bucket, or the table number of one that is unsound.
+pub(crate) enum Reach {
+    Next(usize),
+    Unsound(usize),
 }

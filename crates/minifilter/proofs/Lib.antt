@@ -9,5 +9,6 @@ pub mod PassLaws
 pub mod ReadLaws
 pub mod FindLaws
 pub mod ListLaws
+pub mod CarryLaws
 pub mod ShiftLaws
 pub mod EditLaws

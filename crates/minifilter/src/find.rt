@@ -203,3 +203,20 @@ pub fn first_carrying(b: &[u8], crumb: u32) -> Carried
     }
     Carried::Key(member_in(b, true, slot) / 16)
 }
+
+// How many keys carry a crumb in a backyard bucket.
+pub fn count_carrying(b: &[u8], crumb: u32) -> usize
+    requires { ⌜ SoundBack (now b) × (crumb < 16) ⌝ }
+    ensures { λ r. ⌜ r ≡ length (carrying crumb (backList (now (b .entry)))) ⌝ }
+{
+    let members = word::occupancy(word::word_of(b));
+    let mut slot: usize = 0;
+    let mut n: usize = 0;
+    while slot < members {
+        if slots::crumb_of(b, slot) == crumb {
+            n += 1;
+        }
+        slot += 1;
+    }
+    n
+}

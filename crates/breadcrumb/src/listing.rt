@@ -1,0 +1,118 @@
+// All members of a front bucket, those behind it too: how many, and the list. "b0 and b1 are read where Front holds 28;
+// elsewhere the members are those of Front alone."
+
+use crate::Behind;
+use crate::Held;
+use crate::backyard::read_behind;
+use crate::image::read_front_at;
+use crate::image::table_of;
+use crate::lists::merge_into;
+use crumbmap::Front;
+use crumbmap::Overflow;
+use crumbmap::map::first_of;
+use crumbmap::map::second_of;
+use minifilter::Reading;
+use minifilter::find::count_carrying;
+use minifilter::find::list_carrying;
+use minifilter::find::list_front;
+ghost use mathlib.Core.Path.{_≡_};
+ghost use Prim.Native.Nat.{_<_, _≤_};
+ghost use lib.ListN.{length};
+ghost use Rattle.minifilter.specs.Buckets.{carrying};
+ghost use Rattle.breadcrumb.specs.Steps.{inFront, inBack, FrontIn, FrontRead, BackRead};
+ghost use Rattle.breadcrumb.specs.Listings.{Listed, overflowIn, behindIn, membersIn, BehindRead, MembersRead, HeldSays};
+
+// The keys of a sound front bucket, in order, into the start of `out`; how many.
+fn list_front_at(image: &[u8], front: Front, out: &mut [u32]) -> usize
+    requires { ⌜ FrontRead (front .0) (now image) × (length (now out) ≡ 28) ⌝ }
+    ensures { λ r. ⌜ Listed (inFront (front .0) (now (image .entry))) (now (out .entry)) r (now (out .exit)) ⌝ }
+{
+    let f = front.0;
+    let at = 64 * f;
+    let end = at + 64;
+    list_front(&image[at..end], out)
+}
+
+// The keys that carry a crumb in a sound backyard bucket, in order, into the start of `out`; how many.
+fn list_carrying_at(image: &[u8], size: usize, way: Overflow, out: &mut [u32]) -> usize
+    requires { ⌜ BackRead size (way .bucket .0) (now image) × (way .crumb < 16) × (length (now out) ≡ 22) ⌝ }
+    ensures { λ r. ⌜ Listed (carrying (way .crumb) (inBack size (way .bucket .0) (now (image .entry)))) (now (out .entry)) r (now (out .exit)) ⌝ }
+{
+    let at = 64 * table_of(size, way.bucket);
+    let end = at + 64;
+    list_carrying(&image[at..end], way.crumb, out)
+}
+
+// How many they are.
+fn count_carrying_at(image: &[u8], size: usize, way: Overflow) -> usize
+    requires { ⌜ BackRead size (way .bucket .0) (now image) × (way .crumb < 16) ⌝ }
+    ensures { λ r. ⌜ (r ≡ length (carrying (way .crumb) (inBack size (way .bucket .0) (now (image .entry))))) × (r ≤ 22) ⌝ }
+{
+    let at = 64 * table_of(size, way.bucket);
+    let end = at + 64;
+    count_carrying(&image[at..end], way.crumb)
+}
+
+// How many members a front bucket has.
+pub(crate) fn count_members(image: &[u8], size: usize, front: Front) -> Held
+    requires { ⌜ FrontIn size (front .0) (now image) ⌝ }
+    ensures { λ r. ⌜ HeldSays size (front .0) (now (image .entry)) r ⌝ }
+{
+    let Reading::Members(n) = read_front_at(image, front) else {
+        return Held::Unsound(front.0);
+    };
+    if n < 28 {
+        return Held::Members(n);
+    }
+    match read_behind(image, size, front) {
+        Behind::Unsound(table) => Held::Unsound(table),
+        Behind::Members(_, _) => Held::Members(n + count_overflow(image, size, front)),
+    }
+}
+
+// First(f) and Second(f): how many.
+fn count_overflow(image: &[u8], size: usize, front: Front) -> usize
+    requires { ⌜ BehindRead size (front .0) (now image) ⌝ }
+    ensures { λ r. ⌜ (r ≡ length (overflowIn size (front .0) (now (image .entry)))) × (r ≤ 44) ⌝ }
+{
+    let first = count_carrying_at(image, size, first_of(front, size));
+    let second = count_carrying_at(image, size, second_of(front, size));
+    first + second
+}
+
+// The members of a front bucket, ascending, into the start of `out`; how many.
+pub(crate) fn list_members(image: &[u8], size: usize, front: Front, out: &mut [u32]) -> usize
+    requires { ⌜ MembersRead size (front .0) (now image) × (length (now out) ≡ 72) ⌝ }
+    ensures { λ r. ⌜ Listed (membersIn size (front .0) (now (image .entry))) (now (out .entry)) r (now (out .exit)) ⌝ }
+{
+    let mut keys = [0u32; 28];
+    let mut over = [0u32; 44];
+    let n = list_front_at(image, front, &mut keys);
+    let m = list_behind(image, size, front, n, &mut over);
+    merge_into(&keys[..n], &over[..m], out);
+    n + m
+}
+
+// Those behind a front bucket with n members, into the start of `out`; how many.
+fn list_behind(image: &[u8], size: usize, front: Front, n: usize, out: &mut [u32]) -> usize
+    requires { ⌜ MembersRead size (front .0) (now image) × (n ≡ length (inFront (front .0) (now image))) × (length (now out) ≡ 44) ⌝ }
+    ensures { λ r. ⌜ Listed (behindIn size (front .0) (now (image .entry))) (now (out .entry)) r (now (out .exit)) ⌝ }
+{
+    if n < 28 {
+        return 0;
+    }
+    list_overflow(image, size, front, out)
+}
+
+// First(f) and Second(f), ascending, into the start of `out`; how many.
+fn list_overflow(image: &[u8], size: usize, front: Front, out: &mut [u32]) -> usize
+    requires { ⌜ BehindRead size (front .0) (now image) × (length (now out) ≡ 44) ⌝ }
+    ensures { λ r. ⌜ Listed (overflowIn size (front .0) (now (image .entry))) (now (out .entry)) r (now (out .exit)) ⌝ }
+{
+    let mut first = [0u32; 22];
+    let mut second = [0u32; 22];
+    let n = list_carrying_at(image, size, first_of(front, size), &mut first);
+    let m = list_carrying_at(image, size, second_of(front, size), &mut second);
+    merge_into(&first[..n], &second[..m], out);
+    n + m
+}
