@@ -1,0 +1,52 @@
+-- The pair of a result: a refusal's is the same whatever the answer would have been, and an answer's is that of the machine's.
+-- Main results: said-refusal, said-mapped, said-changed, andThen-accepted.
+use mathlib.Core.Path.{_≡_, refl, _∙_}
+use Prim.Native.Nat.{ℕ, _<_}
+use native.Mathlib.Omega.{arith}
+use Rattle.machine.specs.Results.{Result, accepted, refused, andThen, number}
+use Rattle.machine.specs.Machine.{Change}
+use Rattle.breadcrumb.specs.Answers.{refusal, changeOf, answerOf}
+use Rattle.breadcrumb.specs.declared.Refusal.{Refusal}
+use Rattle.breadcrumb.specs.declared.Changed.{Changed}
+use Rattle.breadcrumb.specs.declared.Refusal.the-variants.{WrongLength, LengthsDiffer, Unsound, Full, Absent, PastEnd, NoRoom, Early}
+use Rattle.answers.specs.Pairs.{saidOf, itself, answerValue}
+use Rattle.answers.specs.declared.Said.{Said}
+
+pub said-refusal : {A C : Type 0} (v : A → ℕ) (w : C → ℕ) (r : Refusal) → saidOf v (refusal r) ≡ saidOf w (refusal r)
+said-refusal v w WrongLength = refl
+said-refusal v w LengthsDiffer = refl
+said-refusal v w (Unsound i) = refl
+said-refusal v w Full = refl
+said-refusal v w Absent = refl
+said-refusal v w PastEnd = refl
+said-refusal v w NoRoom = refl
+said-refusal v w (Early i) = refl
+
+-- no refusal has the number of an accepted call
+pub refusal-number : (A : Type 0) (r : Refusal) → 0 < number (refusal {A = A} r)
+refusal-number A WrongLength = omega arith
+refusal-number A LengthsDiffer = omega arith
+refusal-number A (Unsound i) = omega arith
+refusal-number A Full = omega arith
+refusal-number A Absent = omega arith
+refusal-number A PastEnd = omega arith
+refusal-number A NoRoom = omega arith
+refusal-number A (Early i) = omega arith
+
+-- the pair of a result whose answer is mapped is the pair by the mapped value
+pub said-mapped : {A C : Type 0} (v : C → ℕ) (f : A → C) (m : Result A) → saidOf v (andThen m (λ a. accepted (f a))) ≡ saidOf (λ a. v (f a)) m
+said-mapped v f (accepted a) = refl
+said-mapped v f (refused n i) = refl
+
+-- what `changed` gives of a call that is m on the machine
+pub said-changed : (m : Result Change) (r : Changed) (s : Said) → s ≡ saidOf itself (changeOf r) → changeOf r ≡ answerOf m → s ≡ saidOf answerValue m
+said-changed m r s e f = e ∙ rw f (said-mapped itself answerValue m)
+
+pub accepted-eq : {A : Type 0} (a b : A) → accepted a ≡ accepted b → a ≡ b
+accepted-eq a b e = cc
+
+-- what a chain was accepted on
+pub andThen-accepted : {A C : Type 0} (r : Result A) (k : A → Result C) (c : C) → andThen r k ≡ accepted c
+    → (a : A) × (r ≡ accepted a) × (k a ≡ accepted c)
+andThen-accepted (accepted a) k c e = (a, refl, e)
+andThen-accepted (refused n i) k c e = let z : _≡_ {A = ℕ} 0 1 = cc in absurd (omega arith)

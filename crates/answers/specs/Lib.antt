@@ -1,0 +1,2 @@
+-- Answers as pairs of numbers.
+pub mod Pairs

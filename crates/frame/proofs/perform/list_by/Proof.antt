@@ -1,0 +1,131 @@
+-- `list_by` prints what a page into a slice with room for every member gives.
+use native.Mathlib.Omega.{arith}
+use mathlib.Core.Path.{_≡_, sym, _∙_, ap}
+use Prim.Native.Nat.{ℕ, _-_, _≤_}
+use mathlib.Core.List.{List}
+use lib.ListN.{length}
+use Rattle.crumbmap.specs.Layouts.{layout1}
+use Rattle.machine.specs.Results.{Result, accepted}
+use Rattle.machine.specs.Pages.{Run}
+use Rattle.machine.specs.Calls.{pageOf, outputOf}
+use Rattle.breadcrumb.specs.Answers.{extentOf}
+use Rattle.frame.specs.Texts.{over}
+use Rattle.frame.specs.Frames.{told, listText, room}
+use Rattle.frame.proofs.PrintLaws.{length-line}
+use Rattle.frame.proofs.PerformLaws.{take-le, list-room, list-text, list-refused}
+use borrow.Author.Needs.{needs}
+use Rattle.frame.proofs.perform.list_by.Statement.{statement}
+use Rattle.frame.proofs.perform.list_by.Tie as tie
+
+-- where the function starts, and the page that it asks for
+abbrev start : tie.After-known-told → tie.Start
+start c = c .before .before .before .before .before .before .before .before .before .before
+
+abbrev asked : tie.After-known-told → Result Run
+asked c = pageOf layout1 (start c .args .image .now) 0 room
+
+-- what the page gave, and wrote
+listed : (c : tie.After-known-told) → accepted (c .before .n .given .0 .0, c .before .n .given .0 .1 .0) ≡ extentOf (asked c)
+listed c = rw (start c .pre .0) at (rw (c .before .n .given .1) at (c .before .before .before .before .before .page .ensures .answer))
+
+written : (c : tie.After-known-told) → c .before .before .before .before .before .page .last .1 .1 .0 ≡ outputOf (asked c) (start c .args .entries .now)
+written c = rw (start c .pre .0) at (c .before .before .before .before .before .page .ensures .bytes)
+
+-- not more than there is room for
+few : (c : tie.After-known-told) → c .before .n .given .0 .0 ≤ room
+few c =
+    rw (sym (start c .pre .0))
+    (list-room (asked c) _ _ (start c .args .entries .now) _ (listed c) (written c) (c .before .before .before .before .before .page .kept .1 .1 .0))
+
+page-requires : tie.Need-page-requires
+page-requires c κs = search needs
+
+enum-known-n : tie.Need-enum-known-n
+enum-known-n c = search needs
+
+put-line-requires : tie.Need-put-line-requires
+put-line-requires c κs = search needs
+
+sub-put-entries : tie.Need-sub-put-entries
+sub-put-entries c = search needs
+
+part-put-entries-start : tie.Need-part-put-entries-start
+part-put-entries-start c = search needs
+
+part-put-entries-end : tie.Need-part-put-entries-end
+part-put-entries-end c = omega (arith, few (c .before .before .before .before .before .before))
+
+put-entries-requires : tie.Need-put-entries-requires
+put-entries-requires c κs =
+    let k = c .before .before .before .before .before .before .before in
+    omega (arith, few k, take-le (k .before .n .given .0 .0 - 0) (k .before .before .before .before .before .page .last .1 .1 .0))
+
+mul-result : tie.Need-mul-result
+mul-result c = omega (arith, few (c .before .before .before .before .before .before .before .before .before .before))
+
+add-result : tie.Need-add-result
+add-result c = omega (arith, few (c .before .before .before .before .before .before .before .before .before .before))
+
+enum-known-why : tie.Need-enum-known-why
+enum-known-why c = search needs
+
+refused-requires : tie.Need-refused-requires
+refused-requires c κs = search needs
+
+put-line-requires-2 : tie.Need-put-line-requires-2
+put-line-requires-2 c κs = search needs
+
+same-length : tie.Need-same-length
+same-length c = search needs
+
+same-length-2 : tie.Need-same-length-2
+same-length-2 c = search needs
+
+returns : tie.Need-returns
+returns c =
+    let k = c .before .before .before .before .before .before .before .before .before .before in
+    let a = start k .args in
+    list-text (asked k) (k .before .n .given .0 .0) (k .before .n .given .0 .1 .0) (a .entries .now) _ (a .out .now) _ _ (listed k) (written k)
+    (c .before .before .before .before .before .before .before .before .put-line .ensures .1) (c .before .before .put-entries .ensures)
+
+same-length-3 : tie.Need-same-length-3
+same-length-3 c = search needs
+
+same-length-4 : tie.Need-same-length-4
+same-length-4 c = search needs
+
+returns-2 : tie.Need-returns-2
+returns-2 c =
+    let r = c .before .before .before in
+    let w = r .before .before .before in
+    let s = w .before .before .before .before .before .before .before .before .before in
+    let a = s .args in
+    let p = c .before .before .put-line2 .ensures in
+    let e = rw (s .pre .0) at (rw (w .why .given .1) at (w .before .before .before .before .page .ensures .answer)) in
+    let t : told 5 (r .refused .result) ≡ listText (pageOf layout1 (a .image .now) 0 room) =
+    rw (r .refused .ensures) (list-refused (pageOf layout1 (a .image .now) 0 room) (w .why .given .0 .0) e)
+    in
+    (p .0 ∙ sym (length-line 5 _ _) ∙ ap length t, p .1 ∙ ap (λ (l : List ℕ). over 0 l (a .out .now)) t)
+
+pub list-by-spec : {M : Type 1} → statement M
+list-by-spec =
+    tie.close
+    (tie.spec
+    page-requires
+    enum-known-n
+    put-line-requires
+    sub-put-entries
+    part-put-entries-start
+    part-put-entries-end
+    put-entries-requires
+    mul-result
+    add-result
+    enum-known-why
+    refused-requires
+    put-line-requires-2
+    same-length
+    same-length-2
+    returns
+    same-length-3
+    same-length-4
+    returns-2)

@@ -1,0 +1,3 @@
+-- The small program of document 01: frames as text, and what each prints and leaves.
+pub mod Texts
+pub mod Frames

@@ -1,0 +1,28 @@
+-- `keep` holds a byte behind the others while there is room.
+use native.Mathlib.Omega.{arith}
+use Prim.Native.Nat.{_<_}
+use Rattle.frames.proofs.LineLaws.{kept-full, kept-more}
+use borrow.Author.Needs.{needs}
+use Rattle.frames.proofs.lines.keep.Statement.{statement}
+use Rattle.frames.proofs.lines.keep.Tie as tie
+
+returns : tie.Need-returns
+returns c = rw (c .if1 .taken) (omega arith, kept-full (c .before .args .line .now) (c .before .args .byte) (c .before .pre .0))
+
+slice-write-line : tie.Need-slice-write-line
+slice-write-line c = search needs
+
+add-result : tie.Need-add-result
+add-result c = search needs
+
+same-length : tie.Need-same-length
+same-length c = search needs
+
+returns-2 : tie.Need-returns-2
+returns-2 c =
+    let a = c .before .args in
+    let l : a .held < 19 = omega arith in
+    (omega arith, kept-more (a .line .now) (a .held) (a .byte) (c .before .pre .0) l)
+
+pub keep-spec : {M : Type 1} → statement M
+keep-spec = tie.close (tie.spec returns slice-write-line add-result same-length returns-2)
