@@ -10,3 +10,5 @@ pub mod EmptyLaws
 pub mod ListLaws
 pub mod ListingLaws
 pub mod PageLaws
+pub mod CheckSteps
+pub mod MergeSteps

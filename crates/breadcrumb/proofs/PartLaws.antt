@@ -19,7 +19,7 @@ use Rattle.minifilter.proofs.BucketLaws.{frontMembers-list, backMembers-list, f
 use Rattle.machine.specs.Images.{lengthOf, sizeOf, bucketAt, put, frontAt, backAt}
 use Rattle.breadcrumb.specs.Steps.{sizing, BackIn, FrontSays, BackSays}
 use Rattle.breadcrumb.specs.declared.Size.the-variants.{Buckets, Wrong}
-use Rattle.machine.proofs.ImageLaws.{length-bucketAt, sizeOf-some, sizeOf-lengthOf}
+use Rattle.machine.proofs.ImageLaws.{below-bucket, length-bucketAt, sizeOf-some, sizeOf-lengthOf}
 
 pub part-bucket : (i : ℕ) (img : List ℕ) → take (64 * i + 64 - 64 * i) (drop (64 * i) img) ≡ bucketAt i img
 unfolding bucketAt
@@ -42,18 +42,6 @@ size-right n B e p h = rw (e, sizeOf-lengthOf B p h)
 
 pub fits : Fits64 layout1
 fits = record { minis = omega arith; slots = omega arith; front = omega arith; back = omega arith }
-
--- a part of bytes is bytes
-below-part : (n m : ℕ) (l : List ℕ) → ((i : ℕ) → getD l i 0 < 256) → Below 256 (take n (drop m l))
-below-part zero m l k = tt
-below-part (suc n) zero [] k = tt
-below-part (suc n) zero (x ∷ xs) k = (k 0, below-part n zero xs (λ i. k (suc i)))
-below-part (suc n) (suc m) [] k = tt
-below-part (suc n) (suc m) (x ∷ xs) k = below-part (suc n) m xs (λ i. k (suc i))
-
-below-bucket : (i : ℕ) (img : List ℕ) → ((k : ℕ) → getD img k 0 < 256) → Below 256 (bucketAt i img)
-unfolding bucketAt
-below-bucket i img k = below-part 64 (64 * i) img k
 
 module _ (f : ℕ) (img : List ℕ) (inside : 64 * f + 64 ≤ length img) (bytes : (i : ℕ) → getD img i 0 < 256) where
   front-said : (o : Option (List ℕ)) → frontMembers layout1 (bucketAt f img) ≡ o → FrontSays f img (readingOf o)

@@ -8,7 +8,7 @@ use Rattle.crumbmap.specs.Layouts.{layout1}
 use Rattle.machine.specs.Results.{Result, accepted, refused, andThen}
 use Rattle.machine.specs.Machine as M
 use Rattle.machine.specs.Pages.{Run}
-use Rattle.machine.specs.Calls.{freshOf, insertOf, deleteOf, pageOf, written, imageOf, outputOf}
+use Rattle.machine.specs.Calls.{freshOf, insertOf, deleteOf, pageOf, mergeOf, written, imageOf, outputOf, targetOf}
 use Rattle.breadcrumb.specs.declared.Refusal.{Refusal}
 use Rattle.breadcrumb.specs.declared.Refusal.the-variants.{WrongLength, LengthsDiffer, Unsound, Full, Absent, PastEnd, NoRoom, Early}
 use Rattle.breadcrumb.specs.declared.Done.{Done}
@@ -100,3 +100,12 @@ pub record Writes (m : Result Run) (old : List ℕ) (r : Paged) (new : List ℕ)
 -- a page of an image from bucket s into the output `old`
 abbrev pub Pages : List ℕ → ℕ → List ℕ → Paged → List ℕ → Type 0
 Pages img s old r new = Writes (pageOf layout1 img s (length old)) old r new
+
+-- a call that fills a target with what `m` is on the machine: its answer, and the target `new` after it
+pub record Fills (m : Result (List ℕ)) (old : List ℕ) (r : Done) (new : List ℕ) : Type 0 where
+  pub answer : doneOf r ≡ blank m
+  pub bytes : new ≡ targetOf layout1 m old
+
+-- a merge of two images into the target `old`
+abbrev pub Merges : List ℕ → List ℕ → List ℕ → Done → List ℕ → Type 0
+Merges a b old r new = Fills (mergeOf layout1 a b old) old r new

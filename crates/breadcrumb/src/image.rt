@@ -20,18 +20,22 @@ use minifilter::find::find_back;
 use minifilter::find::find_front;
 use minifilter::find::first_carrying;
 use minifilter::find::largest_front;
+use minifilter::find::member_back;
 use minifilter::read::read_back;
 use minifilter::read::read_front;
+use minifilter::word::occupancy;
+use minifilter::word::word_of;
 ghost use mathlib.Core.Path.{_≡_};
 ghost use Prim.Native.Nat.{_+_, _*_, _<_, _≤_};
 ghost use mathlib.Core.List.{[]};
-ghost use lib.ListN.{length};
+ghost use lib.ListN.{length, getD};
 ghost use Rattle.multiset.specs.Multisets.{added, removed, copies, largest};
 ghost use Rattle.crumbmap.specs.Layouts.{layout1, keys, fronts, backyards};
 ghost use Rattle.minifilter.specs.Buckets.{frontBytes, carrying};
 ghost use Rattle.minifilter.specs.Readings.{FoundIn, firstOf};
 ghost use Rattle.machine.specs.Images.{sizeOf, put, putFront, putBack};
 ghost use Rattle.breadcrumb.specs.Steps.{sizing, LocatedIn, inFront, inBack, BackIn, FrontRead, BackRead, FrontSays, BackSays};
+ghost use Rattle.breadcrumb.specs.Passes.{served};
 
 // "A lent byte slice of 576 × B + 448 bytes, B from 1 to 65,536."
 pub(crate) fn size_of(len: usize) -> Size
@@ -196,4 +200,72 @@ pub(crate) fn clear_at(image: &mut [u8], table: usize)
     let at = 64 * table;
     let end = at + 64;
     clear(&mut image[at..end]);
+}
+
+// How many members a sound front bucket holds.
+pub(crate) fn count_front_at(image: &[u8], front: Front) -> usize
+    requires { ⌜ FrontRead (front .0) (now image) ⌝ }
+    ensures { λ r. ⌜ r ≡ length (inFront (front .0) (now (image .entry))) ⌝ }
+{
+    let f = front.0;
+    let at = 64 * f;
+    let end = at + 64;
+    occupancy(word_of(&image[at..end]))
+}
+
+// How many members a sound backyard bucket holds.
+pub(crate) fn count_back_at(image: &[u8], size: usize, bucket: Backyard) -> usize
+    requires { ⌜ BackRead size (bucket .0) (now image) ⌝ }
+    ensures { λ r. ⌜ r ≡ length (inBack size (bucket .0) (now (image .entry))) ⌝ }
+{
+    let at = 64 * table_of(size, bucket);
+    let end = at + 64;
+    occupancy(word_of(&image[at..end]))
+}
+
+// The member at a slot in use of a sound backyard bucket.
+pub(crate) fn member_back_at(image: &[u8], size: usize, bucket: Backyard, slot: usize) -> u32
+    requires { ⌜ BackRead size (bucket .0) (now image) × (slot < length (inBack size (bucket .0) (now image))) ⌝ }
+    ensures { λ r. ⌜ r ≡ getD (inBack size (bucket .0) (now (image .entry))) slot 0 ⌝ }
+{
+    let at = 64 * table_of(size, bucket);
+    let end = at + 64;
+    member_back(&image[at..end], slot)
+}
+
+// The bytes of whichever of two sound front buckets has members, the first's where it has any.
+pub(crate) fn whichever<'a>(first: &'a [u8], second: &'a [u8], front: Front) -> &'a [u8]
+    requires { ⌜ FrontRead (front .0) (now first) × FrontRead (front .0) (now second) ⌝ }
+    ensures { λ r. ⌜ (now r ≡ served (front .0) (now (first .entry)) (now (second .entry))) × (length (now r) ≡ 64) ⌝ }
+{
+    let f = front.0;
+    let at = 64 * f;
+    let end = at + 64;
+    if count_front_at(first, front) == 0 {
+        &second[at..end]
+    } else {
+        &first[at..end]
+    }
+}
+
+// A front bucket takes 64 bytes.
+pub(crate) fn write_front_at(image: &mut [u8], front: Front, bytes: &[u8])
+    requires { ⌜ (64 * front .0 + 64 ≤ length (now image)) × (length (now bytes) ≡ 64) ⌝ }
+    ensures { λ _. ⌜ now (image .exit) ≡ put (front .0) (now (bytes .entry)) (now (image .entry)) ⌝ }
+{
+    let f = front.0;
+    let at = 64 * f;
+    let end = at + 64;
+    copy_bytes(bytes, &mut image[at..end]);
+}
+
+fn copy_bytes(from: &[u8], to: &mut [u8])
+    requires { ⌜ length (now to) ≡ length (now from) ⌝ }
+    ensures { λ _. ⌜ now (to .exit) ≡ now (from .entry) ⌝ }
+{
+    let mut i = 0;
+    while i < from.len() {
+        to[i] = from[i];
+        i += 1;
+    }
 }

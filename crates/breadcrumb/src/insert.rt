@@ -36,7 +36,7 @@ pub fn insert(image: &mut [u8], hash: u64) -> Changed
 }
 
 // The front bucket has a free slot, or its overflow has to go behind it.
-fn insert_at(image: &mut [u8], target: Target) -> Changed
+pub(crate) fn insert_at(image: &mut [u8], target: Target) -> Changed
     requires { ⌜ Placed target (now image) ⌝ }
     ensures { λ r. ⌜ Changes (insertAt layout1 (target .size) (target .front .0) (target .key) (now (image .entry))) (now (image .entry)) r (now (image .exit)) ⌝ }
 {

@@ -3,6 +3,7 @@
 
 pub mod ask;
 mod backyard;
+pub mod check;
 pub mod count;
 pub mod delete;
 pub mod fresh;
@@ -10,6 +11,7 @@ mod image;
 pub mod insert;
 mod listing;
 mod lists;
+pub mod merge;
 pub mod page;
 
 use crumbmap::Front;
@@ -125,4 +127,10 @@ pub(crate) enum Held {
 pub(crate) enum Reach {
     Next(usize),
     Unsound(usize),
+}
+
+// The table number of the first bucket that fails a test, or that none does.
+pub(crate) enum Fault {
+    At(usize),
+    Nowhere,
 }

@@ -1,22 +1,40 @@
--- Check accepts every good image: every bucket is sound, and no backyard member stands before its turn. Main result: `check-good`.
-use mathlib.Core.Path.{_≡_, refl}
+-- Check accepts exactly the good images: every bucket is sound, and no backyard member stands before its turn.
+-- Main results: `check-good` and, for bytes of an image's length, `good-checked`.
+use mathlib.Core.Path.{_≡_, refl, sym, ap, _∙_}
 use Prim.Native.Nat.{ℕ, zero, suc, _+_, _*_, _/_, _%_, _≤_, _<_}
-use mathlib.Core.Bool.{Bool, true, false}
+use mathlib.Core.Bool.{Bool, true, false, cond, _&&_}
 use mathlib.Core.List.{List, [], _∷_}
 use mathlib.Core.Option.{Option, none, some}
 use native.Mathlib.Omega.{arith}
-use lib.Dec.{ltb, T}
+use native.Mathlib.Decide.{ℕ-discrete}
+use lib.ListN.{length, getD}
+use lib.Dec.{leb, ltb, eqb, T}
 use lib.Ieee.Fits.{and-l, and-r}
-use borrow.Author.Tests.{eq-eqb, le-leb}
-use Rattle.multiset.specs.Multisets.{copies}
-use Rattle.multiset.proofs.MultisetLaws.{hit-same, copies-cons}
+use borrow.Author.Tests.{eq-eqb, le-leb, eqb-true, leb-true}
+use Rattle.multiset.specs.Multisets.{copies, largest}
+use Rattle.multiset.proofs.MultisetLaws.{hit-same, hit-other, copies-cons}
 use Rattle.crumbmap.specs.Layouts.{Layout, fronts, backyards}
-use Rattle.crumbmap.specs.CrumbMap.{home}
-use Rattle.crumbmap.proofs.CrumbMapLaws.{home-lt, bucketOf-home}
-use Rattle.minifilter.specs.Buckets.{isSome, valid}
-use Rattle.machine.specs.Results.{accepted}
-use Rattle.machine.specs.Checks.{unsoundFront, unsoundBack, homeInTurn, allInTurn, early, checkSized}
-use Rattle.machine.proofs.Invariant.{Good, backView, part, over}
+use Rattle.crumbmap.specs.CrumbMap.{bucketOf, crumbOf, home}
+use Rattle.crumbmap.proofs.CrumbMapLaws.{home-lt, home-bucketOf, bucketOf-home, bucketOf-lt, crumbOf-lt}
+use Rattle.minifilter.specs.Buckets.{Fits64, isSome, valid, frontMembers, backMembers, FrontList, BackList}
+use Rattle.minifilter.proofs.BucketLaws.{frontMembers-list, backMembers-list}
+use Rattle.machine.specs.Results.{Result, accepted, refused, orUnsound}
+use Rattle.machine.specs.Images.{sizeOf, bucketAt, frontAt, backAt}
+use Rattle.machine.specs.Checks.{
+  unless,
+  orLater,
+  unsoundFront,
+  unsoundBack,
+  inTurn,
+  homeInTurn,
+  allInTurn,
+  bucketInTurn,
+  early,
+  checkSized,
+}
+use Rattle.machine.proofs.ImageLaws.{sizeOf-some, front-inside, back-inside, length-bucketAt}
+use Rattle.machine.proofs.ImageLaws.{below-bucket}
+use Rattle.machine.proofs.Invariant.{Good, listOf, frontView, backView, part, over}
 
 module _ (L : Layout) (B : ℕ) (img : List ℕ) (good : Good L B img) where
   fronts-sound : (n f : ℕ) → f + n ≡ fronts B → unsoundFront L n f img ≡ none
@@ -75,3 +93,123 @@ module _ (L : Layout) (B : ℕ) (img : List ℕ) (good : Good L B img) where
   pub check-good : checkSized L B img ≡ accepted tt
   unfolding checkSized
   check-good = rw (fronts-sound (fronts B) 0 (omega arith), backs-sound (backyards B) 0 (omega arith), none-early (backyards B) 0 (omega arith)) refl
+
+-- ---- and what it accepts is good
+
+both-true : (a b : Bool) → (a && b) ≡ true → (a ≡ true) × (b ≡ true)
+both-true true b e = (refl, e)
+both-true false b e = let z : _≡_ {A = ℕ} 0 1 = cc in absurd (omega arith)
+
+-- nothing was found, and it went on
+unless-passed : (o : Option ℕ) (n : ℕ) (k : Result (Unit {0})) → unless o n k ≡ accepted tt → (o ≡ none) × (k ≡ accepted tt)
+unless-passed none n k e = (refl, e)
+unless-passed (some i) n k e = let z : _≡_ {A = ℕ} 0 1 = cc in absurd (omega arith)
+
+later-passed : (r : Result (List ℕ)) (o : Option ℕ) → orLater r o ≡ none → (r ≡ accepted (listOf r)) × (o ≡ none)
+later-passed (accepted xs) o e = (refl, e)
+later-passed (refused n i) o e = let z : _≡_ {A = ℕ} 0 1 = cc in absurd (omega arith)
+
+-- where no reading of n from f on was refused, each was accepted
+pub each-read : (read : ℕ → Result (List ℕ)) (first : ℕ → ℕ → Option ℕ) → ((n f : ℕ) → first (suc n) f ≡ orLater (read f) (first n (suc f)))
+    → (n f e : ℕ) → first n f ≡ none → f ≤ e → e < f + n → read e ≡ accepted (listOf (read e))
+each-read read first step zero f e h l k = absurd (omega arith)
+each-read read first step (suc n) f e h l k =
+    let p = later-passed (read f) (first n (suc f)) (sym (step n f) ∙ h) in
+    elim (ℕ-discrete e f) [
+      | yes q ↦ rw q (p .0)
+      | no q ↦ each-read read first step n (suc f) e (p .1) (omega arith) (omega arith)
+    ]
+
+pub was-sound : (i : ℕ) (o : Option (List ℕ)) (xs : List ℕ) → orUnsound i o ≡ accepted xs → o ≡ some xs
+was-sound i none xs e = let z : _≡_ {A = ℕ} 0 1 = cc in absurd (omega arith)
+was-sound i (some ys) xs e = cc
+
+cond-passed : (b : Bool) (o : Option ℕ) (i : ℕ) → cond b o (some i) ≡ none → (b ≡ true) × (o ≡ none)
+cond-passed true o i e = (refl, e)
+cond-passed false o i e = let z : _≡_ {A = ℕ} 0 1 = cc in absurd (omega arith)
+
+module _ (L : Layout) (B : ℕ) (img : List ℕ) where
+  none-before : (n j k : ℕ) → early L B n j img ≡ none → j ≤ k → k < j + n → bucketInTurn L B k img (backAt L B k img) ≡ true
+  unfolding early
+  none-before zero j k h l r = absurd (omega arith)
+  none-before (suc n) j k h l r =
+      let p = cond-passed (bucketInTurn L B j img (backAt L B j img)) (early L B n (suc j) img) (fronts B + j) h in
+      elim (ℕ-discrete k j) [
+        | yes q ↦ rw q (p .0)
+        | no q ↦ none-before n (suc j) k (p .1) (omega arith) (omega arith)
+      ]
+
+  each-in-turn : (j y : ℕ) (ys : List ℕ) → allInTurn L B j img ys ≡ true → 0 < copies y ys → homeInTurn L (home B j (y % 16)) (y / 16) img ≡ true
+  unfolding allInTurn copies
+  each-in-turn j y [] h c = absurd (omega arith)
+  each-in-turn j y (z ∷ zs) h c =
+      let p = both-true (homeInTurn L (home B j (z % 16)) (z / 16) img) (allInTurn L B j img zs) h in
+      elim (ℕ-discrete y z) [
+        | yes q ↦ rw q (p .0)
+        | no q ↦ each-in-turn j y zs (p .1) (omega (arith, copies-cons y z zs, hit-other y z q))
+      ]
+
+  turn-full : (x : ℕ) (r : Result (List ℕ)) → inTurn L x r ≡ true → (length (listOf r) ≡ L .frontSlots) × (largest (listOf r) ≤ x)
+  turn-full x (accepted xs) e =
+      let p = both-true (eqb (length xs) (L .frontSlots)) (leb (largest xs) x) e in
+      (eqb-true _ _ (p .0), leb-true _ _ (p .1))
+  turn-full x (refused n i) e = let z : _≡_ {A = ℕ} 0 1 = cc in absurd (omega arith)
+
+module _ (L : Layout) (fits : Fits64 L) (B : ℕ) (img : List ℕ) (bytes : (i : ℕ) → getD img i 0 < 256) (size : sizeOf (length img) ≡ some B)
+    (checked : checkSized L B img ≡ accepted tt) where
+  passed : (unsoundFront L (fronts B) 0 img ≡ none) × (unsoundBack L B (backyards B) 0 img ≡ none) × (early L B (backyards B) 0 img ≡ none)
+  unfolding checkSized
+  passed =
+      let p = unless-passed _ 3 _ checked in
+      let q = unless-passed _ 3 _ (p .1) in
+      (p .0, q .0, unless-passed _ 8 _ (q .1) .0)
+
+  front-passed : (f : ℕ) → f < fronts B → frontAt L f img ≡ accepted (frontView L B f img)
+  unfolding frontView unsoundFront
+  front-passed f h =
+      each-read (λ (e : ℕ). frontAt L e img) (λ (n e : ℕ). unsoundFront L n e img) (λ n e. refl) (fronts B) 0 f (passed .0) (omega arith) (omega arith)
+
+  back-passed : (j : ℕ) → j < backyards B → backAt L B j img ≡ accepted (backView L B j img)
+  unfolding backView unsoundBack
+  back-passed j h =
+      each-read (λ (e : ℕ). backAt L B e img) (λ (n e : ℕ). unsoundBack L B n e img) (λ n e. refl) (backyards B) 0 j (passed .1) (omega arith) (omega arith)
+
+  front-list : (f : ℕ) → f < fronts B → FrontList L (frontView L B f img)
+  unfolding frontAt
+  front-list f h =
+      let inside : 64 * f + 64 ≤ length img = rw (sizeOf-some (length img) B size .0) (front-inside B f h) in
+      frontMembers-list L fits (bucketAt f img) (frontView L B f img) (below-bucket f img bytes) (length-bucketAt f img inside)
+      (was-sound f (frontMembers L (bucketAt f img)) (frontView L B f img) (front-passed f h))
+
+  back-list : (j : ℕ) → j < backyards B → BackList L B j (backView L B j img)
+  unfolding backAt
+  back-list j h =
+      let i : ℕ = fronts B + j in
+      let inside : 64 * i + 64 ≤ length img = rw (sizeOf-some (length img) B size .0) (back-inside B j h) in
+      backMembers-list L fits B j (bucketAt i img) (backView L B j img) (below-bucket i img bytes) (length-bucketAt i img inside)
+      (was-sound i (backMembers L B j (bucketAt i img)) (backView L B j img) (back-passed j h))
+
+  part-turn : (t : Bool) (f x : ℕ) → f < fronts B → 0 < part L B t f x img
+      → (length (frontView L B f img) ≡ L .frontSlots) × (largest (frontView L B f img) ≤ x)
+  unfolding part frontView
+  part-turn t f x h c =
+      let j : ℕ = bucketOf t B f in
+      let l : j < backyards B = bucketOf-lt t B f h in
+      let whole = rw (back-passed j l) at (none-before L B img (backyards B) 0 j (passed .2) (omega arith) (omega arith)) in
+      let mine = each-in-turn L B img j (x * 16 + crumbOf t f) (backView L B j img) whole c in
+      let low : (x * 16 + crumbOf t f) % 16 ≡ crumbOf t f = omega (arith, crumbOf-lt t f) in
+      let high : (x * 16 + crumbOf t f) / 16 ≡ x = omega (arith, crumbOf-lt t f) in
+      turn-full L B img x (frontAt L f img) (rw (low, high, home-bucketOf t B f h) at mine)
+
+  pub good-checked : Good L B img
+  good-checked = record {
+    size = size;
+    front = front-passed;
+    frontGood = front-list;
+    back = back-passed;
+    backGood = back-list;
+    turn = λ f x h c. elim (ℕ-discrete (part L B true f x img) 0) [
+      | yes e ↦ part-turn false f x h (omega arith)
+      | no n ↦ part-turn true f x h (omega arith)
+    ];
+  }

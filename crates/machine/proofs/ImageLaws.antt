@@ -2,14 +2,15 @@
 use mathlib.Core.Path.{_≡_, refl, sym, ap, _∙_}
 use mathlib.Core.Bool.{Bool, true, false, cond, _&&_}
 use Prim.Native.Nat.{ℕ, zero, suc, _+_, _*_, _/_, _-_, _≤_, _<_}
-use mathlib.Core.List.{List, [], _++_, append-assoc, append-nil}
+use mathlib.Core.List.{List, [], _∷_, _++_, append-assoc, append-nil}
 use mathlib.Core.Option.{none, some}
 use native.Mathlib.Omega.{arith}
-use lib.ListN.{length, take, drop, length-append, length-take, length-drop, take-append-drop}
+use lib.ListN.{length, take, drop, length-append, length-take, length-drop, take-append-drop, getD}
 use lib.Seq.{length-take-le, take-all, take-at, drop-at, take-append-le, drop-append-le, drop-append-add}
 use lib.Dec.{T, eqb, leb, ltb, eqb→eq, leb→le}
 use mir.Facts.{and-yes}
 use borrow.Author.Tests.{eq-eqb, le-leb, ltb-true, ltb-false}
+use Rattle.multiset.specs.Multisets.{Below}
 use Rattle.crumbmap.specs.Layouts.{Layout, fronts, backyards}
 use Rattle.minifilter.specs.Buckets.{frontBytes, backBytes}
 use Rattle.machine.specs.Images.{lengthOf, sizeOf, bucketAt, put, repeated, emptyImage}
@@ -63,6 +64,18 @@ bucketAt-put-other i k b img h l n = go (ltb k i) refl
 pub length-bucketAt : (i : ℕ) (img : List ℕ) → 64 * i + 64 ≤ length img → length (bucketAt i img) ≡ 64
 unfolding bucketAt
 length-bucketAt i img h = simp (length-take, length-drop) (omega arith)
+
+-- a part of bytes is bytes
+below-part : (n m : ℕ) (l : List ℕ) → ((i : ℕ) → getD l i 0 < 256) → Below 256 (take n (drop m l))
+below-part zero m l k = tt
+below-part (suc n) zero [] k = tt
+below-part (suc n) zero (x ∷ xs) k = (k 0, below-part n zero xs (λ i. k (suc i)))
+below-part (suc n) (suc m) [] k = tt
+below-part (suc n) (suc m) (x ∷ xs) k = below-part (suc n) m xs (λ i. k (suc i))
+
+pub below-bucket : (i : ℕ) (img : List ℕ) → ((k : ℕ) → getD img k 0 < 256) → Below 256 (bucketAt i img)
+unfolding bucketAt
+below-bucket i img k = below-part 64 (64 * i) img k
 
 -- a length that is accepted is that of its size, and the other way round
 pub sizeOf-some : (n B : ℕ) → sizeOf n ≡ some B → (n ≡ lengthOf B) × (0 < B) × (B ≤ 65536)

@@ -107,7 +107,7 @@ module _ (L : Layout) (fits : Fits64 L) where
 
   -- ---- merge
 
-  insertAll-keeps : (B f : ℕ) (xs img : List ℕ) → Good L B img → f < fronts B → Below (keys L) xs → InsertedAll L B f xs img
+  pub insertAll-keeps : (B f : ℕ) (xs img : List ℕ) → Good L B img → f < fronts B → Below (keys L) xs → InsertedAll L B f xs img
   unfolding insertAll
   insertAll-keeps B f [] img good h b = took-all img refl good (record { here = λ y. omega (arith, nothing y); elsewhere = λ e y l n. refl })
     where

@@ -1,0 +1,282 @@
+-- The value of each call on an image is below 2^56: answers and table numbers are small, and members are few.
+-- Main results: fresh-fits, check-fits, insert-fits, delete-fits, ask-fits, count-fits, page-fits, merge-fits.
+use mathlib.Core.Path.{_≡_, refl, sym}
+use Prim.Native.Nat.{ℕ, zero, suc, _+_, _*_, _-_, _^_, _≤_, _<_}
+use mathlib.Core.Bool.{Bool, true, false, cond, _&&_}
+use mathlib.Core.List.{List, [], _∷_}
+use mathlib.Core.Option.{Option, none, some}
+use native.Mathlib.Omega.{arith}
+use lib.ListN.{length}
+use lib.Dec.{leb, ltb, eqb}
+use borrow.Author.Tests.{ltb-false}
+use Rattle.multiset.specs.Multisets.{copies, slotOf, largest, removed}
+use Rattle.multiset.proofs.MultisetLaws.{copies-le-length}
+use Rattle.crumbmap.specs.Layouts.{layout1, fronts, backyards}
+use Rattle.crumbmap.specs.Fingerprints.{frontOf, keyOf}
+use Rattle.crumbmap.specs.CrumbMap.{firstBucket, secondBucket, firstCrumb, secondCrumb, bucketOf}
+use Rattle.crumbmap.proofs.CrumbMapLaws.{bucketOf-lt}
+use Rattle.crumbmap.proofs.FingerprintLaws.{frontOf-lt}
+use Rattle.minifilter.specs.Buckets.{carrying, frontMembers, backMembers}
+use Rattle.machine.specs.Results.{Result, accepted, refused, andThen, orUnsound, orRefused}
+use Rattle.machine.specs.Images.{sized, sizeOf, frontAt, backAt, bucketAt}
+use Rattle.machine.specs.Bags.{has, fromFirst}
+use Rattle.machine.specs.Machine.{Place, nowhere, front, first, second, changed, asked, counted, backyard, overflow}
+use Rattle.machine.specs.Machine.{insertAt, takeOut, refill, deleteAt, askAt, countAt, membersAt}
+use Rattle.machine.specs.Pages.{Run, runFrom, pageFrom}
+use Rattle.machine.specs.Checks.{orLater, unsoundFront, unsoundBack, bucketInTurn, early, checkSized}
+use Rattle.machine.specs.Merges.{insertAll, mergeFrom, mergeSized}
+use Rattle.machine.specs.Calls.{freshOf, insertOf, deleteOf, askOf, countOf, pageOf, checkOf, mergeOf}
+use Rattle.machine.proofs.ImageLaws.{sizeOf-some}
+use Rattle.answers.specs.Pairs.{answerValue}
+use Rattle.answers.proofs.RoomLaws.{frontAt-room, backAt-room, backyard-room, run-count, slotOf-lt}
+use Rattle.capi.specs.Packing.{Within, taken, barred, nothing, placeWord, askWord, countWord, runWord}
+use Rattle.capi.proofs.ResultLaws.{within-then, within-cond, within-found, within-unless}
+
+abbrev cap : ℕ
+cap = 2 ^ 56
+
+-- ---- answers that are small
+
+bar : {A : Type 0} {v : A → ℕ} (m i : ℕ) → m < 9 → i < cap → Within v cap (refused m i)
+bar m i h k = barred h k
+
+pass : {A : Type 0} (a : A) → Within nothing cap (accepted a)
+pass a = taken {a = a} (omega arith)
+
+changed-fits : (n : ℕ) (img : List ℕ) → n < cap → Within answerValue cap (changed n img)
+changed-fits n img h = taken h
+
+asked-fits : (n : ℕ) (p : Place) → n + placeWord p < cap → Within askWord cap (asked n p)
+asked-fits n p h = taken h
+
+counted-fits : (n c : ℕ) → c + 2 ^ 32 * n < cap → Within countWord cap (counted n c)
+counted-fits n c h = taken h
+
+run-fits : (r : Run) → runWord r < cap → Within runWord cap (accepted r)
+run-fits r h = taken h
+
+-- ---- reads
+
+sound-orUnsound : (i : ℕ) (o : Option (List ℕ)) → i < cap → Within nothing cap (orUnsound i o)
+sound-orUnsound i none h = bar 3 i (omega arith) h
+sound-orUnsound i (some xs) h = pass xs
+
+-- an image of any length, then a call on one of size B
+sized-fits : {A : Type 0} {v : A → ℕ} (img : List ℕ) (k : ℕ → Result A) → ((B : ℕ) → 0 < B → B ≤ 65536 → Within v cap (k B))
+    → Within v cap (andThen (sized img) k)
+sized-fits {A} {v} img k g = go (sizeOf (length img)) refl
+  where
+    go : (o : Option ℕ) → sizeOf (length img) ≡ o → Within v cap (andThen (orRefused 1 o) k)
+    go none e = bar 1 0 (omega arith) (omega arith)
+    go (some B) e = let s = sizeOf-some (length img) B e in g B (s .1) (s .2)
+
+module _ (B f : ℕ) (img : List ℕ) (l : B ≤ 65536) (h : f < fronts B) where
+  frontAt-sound : Within nothing cap (frontAt layout1 f img)
+  unfolding frontAt fronts
+  frontAt-sound = sound-orUnsound f (frontMembers layout1 (bucketAt f img)) (omega arith)
+
+  backAt-sound : (j : ℕ) → j < backyards B → Within nothing cap (backAt layout1 B j img)
+  unfolding backAt fronts backyards
+  backAt-sound j k = sound-orUnsound (8 * B + j) (backMembers layout1 B j (bucketAt (8 * B + j) img)) (omega arith)
+
+  backyard-sound : Within nothing cap (backyard layout1 B f img)
+  backyard-sound =
+      within-then (backAt layout1 B (firstBucket f) img) _ (backAt-sound (firstBucket f) (bucketOf-lt true B f h)) (λ ys e.
+      within-then (backAt layout1 B (secondBucket B f) img) _ (backAt-sound (secondBucket B f) (bucketOf-lt false B f h)) (λ zs g. pass (ys, zs)))
+
+  -- "1 + the backyard number"
+  answer-lt : (t : Bool) → 1 + bucketOf t B f < cap
+  unfolding backyards
+  answer-lt t = omega (arith, bucketOf-lt t B f h)
+
+  insertAt-fits : (x : ℕ) → Within answerValue cap (insertAt layout1 B f x img)
+  unfolding insertAt
+  insertAt-fits x =
+      within-then (frontAt layout1 f img) _ frontAt-sound (λ xs e.
+      within-cond (ltb (length xs) 28) _ _ (λ _. changed-fits 0 _ (omega arith)) (λ _.
+      within-then (backyard layout1 B f img) _ backyard-sound (λ b g.
+      within-cond (eqb (length (b .0)) 22 && eqb (length (b .1)) 22) _ _ (λ _. bar 4 0 (omega arith) (omega arith)) (λ _.
+      changed-fits (1 + bucketOf (ltb (length (b .0)) (length (b .1))) B f) _ (answer-lt (ltb (length (b .0)) (length (b .1))))))))
+
+  takeOut-fits : (v : ℕ) (b : List ℕ × List ℕ) (i : List ℕ) → Within answerValue cap (takeOut layout1 B f v b i)
+  unfolding takeOut
+  takeOut-fits v b i =
+      let t : Bool = fromFirst v (carrying (firstCrumb f) (b .0)) (carrying (secondCrumb f) (b .1)) (length (b .0)) (length (b .1)) in
+      changed-fits (1 + bucketOf t B f) _ (answer-lt t)
+
+  refill-fits : (xs vs : List ℕ) (b : List ℕ × List ℕ) (i : List ℕ) → Within answerValue cap (refill layout1 B f xs vs b i)
+  unfolding refill
+  refill-fits xs [] b i = changed-fits 0 _ (omega arith)
+  refill-fits xs (v ∷ vs) b i = takeOut-fits v b _
+
+  deleteAt-fits : (x : ℕ) → Within answerValue cap (deleteAt layout1 B f x img)
+  unfolding deleteAt
+  deleteAt-fits x =
+      within-then (frontAt layout1 f img) _ frontAt-sound (λ xs e.
+      within-cond (has x xs) _ _
+      (λ _. within-cond (ltb (length xs) 28) _ _ (λ _. changed-fits 0 _ (omega arith)) (λ _.
+      within-then (backyard layout1 B f img) _ backyard-sound (λ b g. refill-fits (removed x xs) (overflow layout1 B f b) b img)))
+      (λ _. within-cond (eqb (length xs) 28 && ltb (largest xs) x) _ _ (λ _.
+      within-then (backyard layout1 B f img) _ backyard-sound (λ b g.
+      within-cond (has x (overflow layout1 B f b)) _ _ (λ _. takeOut-fits x b img) (λ _. bar 5 0 (omega arith) (omega arith))))
+      (λ _. bar 5 0 (omega arith) (omega arith))))
+
+  askAt-fits : (x : ℕ) → Within askWord cap (askAt layout1 B f x img)
+  unfolding askAt
+  askAt-fits x =
+      within-then (frontAt layout1 f img) _ frontAt-sound (λ xs e.
+      within-found (slotOf x xs) _ _ (λ i s. asked-fits 1 (front i) (omega (arith, slotOf-lt x xs i s, frontAt-room layout1 f img xs e)))
+      (within-cond (eqb (length xs) 28 && ltb (largest xs) x) _ _
+      (λ _. within-then (backAt layout1 B (firstBucket f) img) _ (backAt-sound (firstBucket f) (bucketOf-lt true B f h)) (λ ys d.
+      within-found (slotOf (x * 16 + firstCrumb f) ys) _ _
+      (λ i s. asked-fits 2 (first i) (omega (arith, slotOf-lt (x * 16 + firstCrumb f) ys i s, backAt-room layout1 B (firstBucket f) img ys d)))
+      (within-then (backAt layout1 B (secondBucket B f) img) _ (backAt-sound (secondBucket B f) (bucketOf-lt false B f h)) (λ zs g.
+      within-found (slotOf (x * 16 + secondCrumb f) zs) _ _
+      (λ i s. asked-fits 3 (second i) (omega (arith, slotOf-lt (x * 16 + secondCrumb f) zs i s, backAt-room layout1 B (secondBucket B f) img zs g)))
+      (asked-fits 3 nowhere (omega arith))))))
+      (λ _. asked-fits 1 nowhere (omega arith))))
+
+  countAt-fits : (x : ℕ) → Within countWord cap (countAt layout1 B f x img)
+  unfolding countAt
+  countAt-fits x =
+      within-then (frontAt layout1 f img) _ frontAt-sound (λ xs e.
+      within-cond (eqb (length xs) 28 && leb (largest xs) x) _ _
+      (λ _. within-then (backyard layout1 B f img) _ backyard-sound (λ b g.
+      let r = backyard-room layout1 B f img b g in
+      counted-fits 3 (copies x xs + copies (x * 16 + firstCrumb f) (b .0) + copies (x * 16 + secondCrumb f) (b .1))
+      (omega (
+        arith,
+        copies-le-length x xs,
+        frontAt-room layout1 f img xs e,
+        copies-le-length (x * 16 + firstCrumb f) (b .0),
+        r .0,
+        copies-le-length (x * 16 + secondCrumb f) (b .1),
+        r .1,
+      ))))
+      (λ _. counted-fits 1 (copies x xs) (omega (arith, copies-le-length x xs, frontAt-room layout1 f img xs e))))
+
+  membersAt-sound : Within nothing cap (membersAt layout1 B f img)
+  unfolding membersAt
+  membersAt-sound =
+      within-then (frontAt layout1 f img) _ frontAt-sound (λ xs e.
+      within-cond (ltb (length xs) 28) _ _ (λ _. pass xs) (λ _.
+      within-then (backyard layout1 B f img) _ backyard-sound (λ b g. pass _)))
+
+-- ---- calls at one front bucket
+
+front-fits : {A : Type 0} {v : A → ℕ} (img : List ℕ) (hash : ℕ) (k : ℕ → ℕ → ℕ → Result A) → hash < 2 ^ 64
+    → ((B f : ℕ) → B ≤ 65536 → f < fronts B → (x : ℕ) → Within v cap (k B f x))
+    → Within v cap (andThen (sized img) λ B. k B (frontOf B hash) (keyOf layout1 hash))
+front-fits img hash k h g = sized-fits img _ (λ B p l. g B (frontOf B hash) l (frontOf-lt B hash p h) (keyOf layout1 hash))
+
+pub insert-fits : (img : List ℕ) (hash : ℕ) → hash < 2 ^ 64 → Within answerValue cap (insertOf layout1 img hash)
+unfolding insertOf
+insert-fits img hash h = front-fits img hash (λ B f x. insertAt layout1 B f x img) h (λ B f l k x. insertAt-fits B f img l k x)
+
+pub delete-fits : (img : List ℕ) (hash : ℕ) → hash < 2 ^ 64 → Within answerValue cap (deleteOf layout1 img hash)
+unfolding deleteOf
+delete-fits img hash h = front-fits img hash (λ B f x. deleteAt layout1 B f x img) h (λ B f l k x. deleteAt-fits B f img l k x)
+
+pub ask-fits : (img : List ℕ) (hash : ℕ) → hash < 2 ^ 64 → Within askWord cap (askOf layout1 img hash)
+unfolding askOf
+ask-fits img hash h = front-fits img hash (λ B f x. askAt layout1 B f x img) h (λ B f l k x. askAt-fits B f img l k x)
+
+pub count-fits : (img : List ℕ) (hash : ℕ) → hash < 2 ^ 64 → Within countWord cap (countOf layout1 img hash)
+unfolding countOf
+count-fits img hash h = front-fits img hash (λ B f x. countAt layout1 B f x img) h (λ B f l k x. countAt-fits B f img l k x)
+
+-- ---- pages
+
+run-sound : (B n s room : ℕ) (img : List ℕ) → B ≤ 65536 → s + n ≤ fronts B → Within nothing cap (runFrom layout1 B n s room img)
+unfolding runFrom
+run-sound B zero s room img l h = pass _
+run-sound B (suc n) s room img l h =
+    within-then (membersAt layout1 B s img) _ (membersAt-sound B s img l (omega arith)) (λ xs e.
+    within-cond (leb (length xs) room) _ _
+    (λ _. within-then (runFrom layout1 B n (suc s) (room - length xs) img) _ (run-sound B n (suc s) (room - length xs) img l (omega arith))
+    (λ r g. pass _))
+    (λ _. pass _))
+
+pub page-fits : (img : List ℕ) (start room : ℕ) → Within runWord cap (pageOf layout1 img start room)
+unfolding pageOf pageFrom fronts
+page-fits img s room =
+    sized-fits img _ (λ B p l.
+    within-cond (ltb (8 * B) s) _ _ (λ _. bar 6 0 (omega arith) (omega arith)) (λ e.
+    let k : s ≤ 8 * B = ltb-false (8 * B) s e in
+    within-then (runFrom layout1 B (8 * B - s) s room img) _ (run-sound B (8 * B - s) s room img l (omega arith)) (λ r g.
+    let c = run-count layout1 B (8 * B - s) s room img r g in
+    within-cond (eqb (r .next) s && ltb s (8 * B)) _ _ (λ _. bar 7 0 (omega arith) (omega arith)) (λ _. run-fits r (omega (arith, c .0, c .1))))))
+
+-- ---- check, fresh, merge
+
+orLater-lt : (n i : ℕ) (r : Result (List ℕ)) (o : Option ℕ) → Within nothing n r → ((j : ℕ) → o ≡ some j → j < n) → orLater r o ≡ some i → i < n
+orLater-lt n i (accepted xs) o w g e = g i e
+orLater-lt n i (refused m j) o (barred p q) g e = let s : j ≡ i = cc in rw (sym s) q
+
+unsoundFront-lt : (B n f : ℕ) (img : List ℕ) (i : ℕ) → B ≤ 65536 → f + n ≤ fronts B → unsoundFront layout1 n f img ≡ some i → i < cap
+unfolding unsoundFront
+unsoundFront-lt B zero f img i l h e = let z : _≡_ {A = ℕ} 0 1 = cc in absurd (omega arith)
+unsoundFront-lt B (suc n) f img i l h e =
+    orLater-lt cap i (frontAt layout1 f img) _ (frontAt-sound B f img l (omega arith)) (λ j. unsoundFront-lt B n (suc f) img j l (omega arith)) e
+
+fronts-pos : (B : ℕ) → 0 < B → 0 < fronts B
+unfolding fronts
+fronts-pos B p = omega arith
+
+unsoundBack-lt : (B n j : ℕ) (img : List ℕ) (i : ℕ) → 0 < B → B ≤ 65536 → j + n ≤ backyards B → unsoundBack layout1 B n j img ≡ some i → i < cap
+unfolding unsoundBack
+unsoundBack-lt B zero j img i p l h e = let z : _≡_ {A = ℕ} 0 1 = cc in absurd (omega arith)
+unsoundBack-lt B (suc n) j img i p l h e =
+    orLater-lt cap i (backAt layout1 B j img) _ (backAt-sound B 0 img l (fronts-pos B p) j (omega arith))
+    (λ k. unsoundBack-lt B n (suc j) img k p l (omega arith)) e
+
+early-lt : (B n j : ℕ) (img : List ℕ) (i : ℕ) → B ≤ 65536 → j + n ≤ backyards B → early layout1 B n j img ≡ some i → i < cap
+unfolding early fronts backyards
+early-lt B zero j img i l h e = let z : _≡_ {A = ℕ} 0 1 = cc in absurd (omega arith)
+early-lt B (suc n) j img i l h e = go (bucketInTurn layout1 B j img (backAt layout1 B j img)) _ (λ k. early-lt B n (suc j) img k l (omega arith)) e
+  where
+    go : (b : Bool) (o : Option ℕ) → ((k : ℕ) → o ≡ some k → k < cap) → cond b o (some (8 * B + j)) ≡ some i → i < cap
+    go true o more g = more i g
+    go false o more g = let s : 8 * B + j ≡ i = cc in omega arith
+
+checkSized-fits : (B : ℕ) (img : List ℕ) → 0 < B → B ≤ 65536 → Within nothing cap (checkSized layout1 B img)
+unfolding checkSized
+checkSized-fits B img p l =
+    within-unless _ _ (omega arith) (λ i. unsoundFront-lt B (fronts B) 0 img i l (omega arith))
+    (within-unless _ _ (omega arith) (λ i. unsoundBack-lt B (backyards B) 0 img i p l (omega arith))
+    (within-unless _ _ (omega arith) (λ i. early-lt B (backyards B) 0 img i l (omega arith)) (pass tt)))
+
+pub check-fits : (img : List ℕ) → Within nothing cap (checkOf layout1 img)
+unfolding checkOf
+check-fits img = sized-fits img _ (λ B p l. checkSized-fits B img p l)
+
+pub fresh-fits : (img : List ℕ) → Within nothing cap (freshOf layout1 img)
+unfolding freshOf
+fresh-fits img = sized-fits img _ (λ B p l. pass _)
+
+insertAll-fits : (B f : ℕ) (xs img : List ℕ) → B ≤ 65536 → f < fronts B → Within nothing cap (insertAll layout1 B f xs img)
+unfolding insertAll
+insertAll-fits B f [] img l h = pass img
+insertAll-fits B f (x ∷ xs) img l h =
+    within-then (insertAt layout1 B f x img) _ (insertAt-fits B f img l h x) (λ c e. insertAll-fits B f xs (c .image) l h)
+
+mergeFrom-fits : (B n f : ℕ) (a b img : List ℕ) → B ≤ 65536 → f + n ≤ fronts B → Within nothing cap (mergeFrom layout1 B n f a b img)
+unfolding mergeFrom
+mergeFrom-fits B zero f a b img l h = pass img
+mergeFrom-fits B (suc n) f a b img l h =
+    let k : f < fronts B = omega arith in
+    within-then (membersAt layout1 B f a) _ (membersAt-sound B f a l k) (λ xs d.
+    within-then (membersAt layout1 B f b) _ (membersAt-sound B f b l k) (λ ys e.
+    within-then (insertAll layout1 B f xs img) _ (insertAll-fits B f xs img l k) (λ i g.
+    within-then (insertAll layout1 B f ys i) _ (insertAll-fits B f ys i l k) (λ j m. mergeFrom-fits B n (suc f) a b j l (omega arith)))))
+
+pub merge-fits : (a b target : List ℕ) → Within nothing cap (mergeOf layout1 a b target)
+unfolding mergeOf mergeSized
+merge-fits a b target =
+    sized-fits a _ (λ B p l.
+    sized-fits b _ (λ C q m.
+    sized-fits target _ (λ D r n.
+    within-cond (eqb B C && eqb B D) _ _ (λ _.
+    within-then (checkSized layout1 B a) _ (checkSized-fits B a p l) (λ _ d.
+    within-then (checkSized layout1 B b) _ (checkSized-fits B b p l) (λ _ e. mergeFrom-fits B (fronts B) 0 a b _ l (omega arith))))
+    (λ _. bar 2 0 (omega arith) (omega arith)))))

@@ -1,0 +1,3 @@
+-- Each call's answer fits its packing.
+pub mod ResultLaws
+pub mod FitLaws

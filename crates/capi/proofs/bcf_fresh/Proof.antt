@@ -1,0 +1,41 @@
+-- `bcf_fresh` packs what a fresh gives.
+use mathlib.Core.Path.{_≡_, _∙_}
+use Prim.Native.Nat.{ℕ}
+use mathlib.Core.List.{List}
+use Rattle.crumbmap.specs.Layouts.{layout1}
+use Rattle.machine.specs.Results.{Result}
+use Rattle.machine.specs.Calls.{freshOf}
+use Rattle.answers.specs.Pairs.{saidOf}
+use Rattle.capi.specs.Packing.{nothing}
+use Rattle.capi.proofs.ResultLaws.{within-packs, said-done}
+use Rattle.capi.proofs.FitLaws.{fresh-fits}
+use borrow.Author.Needs.{needs}
+use Rattle.capi.proofs.bcf_fresh.Statement.{statement}
+use Rattle.capi.proofs.bcf_fresh.Tie as tie
+
+fresh-requires : tie.Need-fresh-requires
+fresh-requires c κs = search needs
+
+done-requires : tie.Need-done-requires
+done-requires c κs = search needs
+
+-- what is asked of the machine
+abbrev asked : tie.After-done → Result (List ℕ)
+asked c = let a = c .before .before .before .before .before .before .args in freshOf layout1 (a .image .now)
+
+-- the number and the value of the answer
+said : (c : tie.After-done) → c .done .result ≡ saidOf nothing (asked c)
+said c = let i = c .before .before .before in said-done (asked c) (i .fresh .result) _ (c .done .ensures) (i .fresh .ensures .answer)
+
+packed-requires : tie.Need-packed-requires
+packed-requires c κs = let a = c .before .before .before .before .before .before .args in rw (said c) (within-packs (fresh-fits (a .image .now)))
+
+same-length : tie.Need-same-length
+same-length c = search needs
+
+returns : tie.Need-returns
+returns c = (c .packed .ensures ∙ rw (said (c .before)), c .before .before .before .before .fresh .ensures .bytes)
+
+pub bcf-fresh-spec : {M : Type 1} → statement M
+bcf-fresh-spec =
+    tie.close (tie.spec fresh-requires done-requires packed-requires same-length returns)

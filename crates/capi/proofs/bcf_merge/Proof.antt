@@ -1,0 +1,43 @@
+-- `bcf_merge` packs what a merge gives.
+use mathlib.Core.Path.{_≡_, _∙_}
+use Prim.Native.Nat.{ℕ}
+use mathlib.Core.List.{List}
+use Rattle.crumbmap.specs.Layouts.{layout1}
+use Rattle.machine.specs.Results.{Result}
+use Rattle.machine.specs.Calls.{mergeOf}
+use Rattle.answers.specs.Pairs.{saidOf}
+use Rattle.capi.specs.Packing.{nothing}
+use Rattle.capi.proofs.ResultLaws.{within-packs, said-done}
+use Rattle.capi.proofs.FitLaws.{merge-fits}
+use borrow.Author.Needs.{needs}
+use Rattle.capi.proofs.bcf_merge.Statement.{statement}
+use Rattle.capi.proofs.bcf_merge.Tie as tie
+
+merge-requires : tie.Need-merge-requires
+merge-requires c κs = search needs
+
+done-requires : tie.Need-done-requires
+done-requires c κs = search needs
+
+-- what is asked of the machine
+abbrev asked : tie.After-done → Result (List ℕ)
+asked c = let a = c .before .before .before .before .before .before .before .before .args in mergeOf layout1 (a .first .now) (a .second .now) (a .target .now)
+
+-- the number and the value of the answer
+said : (c : tie.After-done) → c .done .result ≡ saidOf nothing (asked c)
+said c = let i = c .before .before .before in said-done (asked c) (i .merge .result) _ (c .done .ensures) (i .merge .ensures .answer)
+
+packed-requires : tie.Need-packed-requires
+packed-requires c κs =
+    let a = c .before .before .before .before .before .before .before .before .args in
+    rw (said c) (within-packs (merge-fits (a .first .now) (a .second .now) (a .target .now)))
+
+same-length : tie.Need-same-length
+same-length c = search needs
+
+returns : tie.Need-returns
+returns c = (c .packed .ensures ∙ rw (said (c .before)), c .before .before .before .before .merge .ensures .bytes)
+
+pub bcf-merge-spec : {M : Type 1} → statement M
+bcf-merge-spec =
+    tie.close (tie.spec merge-requires done-requires packed-requires same-length returns)

@@ -1,0 +1,2 @@
+-- What the C boundary gives: an answer packed into one number.
+pub mod Packing

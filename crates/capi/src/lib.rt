@@ -1,0 +1,94 @@
+// The calls for C. Each gives one number, its answer packed: number × 2^56 + value, number 0 when accepted.
+
+mod pack;
+
+use crate::pack::asked;
+use crate::pack::counted;
+use crate::pack::done;
+use crate::pack::packed;
+use crate::pack::paged;
+use answers::changed;
+use breadcrumb::ask::ask;
+use breadcrumb::check::check;
+use breadcrumb::count::count;
+use breadcrumb::delete::delete;
+use breadcrumb::fresh::fresh;
+use breadcrumb::insert::insert;
+use breadcrumb::merge::merge;
+use breadcrumb::page::page;
+ghost use mathlib.Core.Path.{_≡_};
+ghost use lib.ListN.{length};
+ghost use Rattle.crumbmap.specs.Layouts.{layout1};
+ghost use Rattle.machine.specs.Calls.{freshOf, insertOf, deleteOf, askOf, countOf, pageOf, checkOf, mergeOf, written, imageOf, outputOf, targetOf};
+ghost use Rattle.answers.specs.Pairs.{answerValue};
+ghost use Rattle.capi.specs.Packing as P;
+
+// The image becomes fresh.
+#[no_mangle]
+pub extern "C" fn bcf_fresh(image: &mut [u8]) -> u64
+    ensures { λ r. ⌜ r ≡ P.packed P.nothing (freshOf layout1 (now (image .entry))) ⌝ }
+    ensures { λ r. ⌜ now (image .exit) ≡ written (freshOf layout1 (now (image .entry))) (now (image .entry)) ⌝ }
+{
+    packed(done(fresh(image)))
+}
+
+// Whether the image is sound and each backyard member in its turn.
+#[no_mangle]
+pub extern "C" fn bcf_check(image: &[u8]) -> u64
+    ensures { λ r. ⌜ r ≡ P.packed P.nothing (checkOf layout1 (now (image .entry))) ⌝ }
+{
+    packed(done(check(image)))
+}
+
+// A hash is inserted.
+#[no_mangle]
+pub extern "C" fn bcf_insert(image: &mut [u8], hash: u64) -> u64
+    ensures { λ r. ⌜ r ≡ P.packed answerValue (insertOf layout1 (now (image .entry)) hash) ⌝ }
+    ensures { λ r. ⌜ now (image .exit) ≡ imageOf (insertOf layout1 (now (image .entry)) hash) (now (image .entry)) ⌝ }
+{
+    packed(changed(insert(image, hash)))
+}
+
+// A hash is deleted.
+#[no_mangle]
+pub extern "C" fn bcf_delete(image: &mut [u8], hash: u64) -> u64
+    ensures { λ r. ⌜ r ≡ P.packed answerValue (deleteOf layout1 (now (image .entry)) hash) ⌝ }
+    ensures { λ r. ⌜ now (image .exit) ≡ imageOf (deleteOf layout1 (now (image .entry)) hash) (now (image .entry)) ⌝ }
+{
+    packed(changed(delete(image, hash)))
+}
+
+// Where a hash stands, and how many buckets were read to tell.
+#[no_mangle]
+pub extern "C" fn bcf_ask(image: &[u8], hash: u64) -> u64
+    ensures { λ r. ⌜ r ≡ P.packed P.askWord (askOf layout1 (now (image .entry)) hash) ⌝ }
+{
+    packed(asked(ask(image, hash)))
+}
+
+// How many copies of a hash there are.
+#[no_mangle]
+pub extern "C" fn bcf_count(image: &[u8], hash: u64) -> u64
+    ensures { λ r. ⌜ r ≡ P.packed P.countWord (countOf layout1 (now (image .entry)) hash) ⌝ }
+{
+    packed(counted(count(image, hash)))
+}
+
+// The members of the longest run of whole buckets from `start` that fits into `out`.
+#[no_mangle]
+pub extern "C" fn bcf_page(image: &[u8], start: u64, out: &mut [u64]) -> u64
+    ensures { λ r. ⌜ r ≡ P.packed P.runWord (pageOf layout1 (now (image .entry)) start (length (now (out .entry)))) ⌝ }
+    ensures { λ r. ⌜ now (out .exit) ≡ outputOf (pageOf layout1 (now (image .entry)) start (length (now (out .entry)))) (now (out .entry)) ⌝ }
+{
+    packed(paged(page(image, start as usize, out)))
+}
+
+// Two images into a third.
+#[no_mangle]
+pub extern "C" fn bcf_merge<'a>(first: &'a [u8], second: &'a [u8], target: &mut [u8]) -> u64
+    ensures { λ r. ⌜ r ≡ P.packed P.nothing (mergeOf layout1 (now (first .entry)) (now (second .entry)) (now (target .entry))) ⌝ }
+    ensures { λ r. ⌜ now (target .exit)
+        ≡ targetOf layout1 (mergeOf layout1 (now (first .entry)) (now (second .entry)) (now (target .entry))) (now (target .entry)) ⌝ }
+{
+    packed(done(merge(first, second, target)))
+}

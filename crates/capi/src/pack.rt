@@ -1,0 +1,93 @@
+// Answers as numbers for C, and a number with its value packed.
+
+use answers::Said;
+use answers::refused;
+use breadcrumb::Answer;
+use breadcrumb::Done;
+use breadcrumb::Paged;
+use breadcrumb::Place;
+use breadcrumb::Tally;
+ghost use mathlib.Core.Path.{_≡_};
+ghost use Prim.Native.Nat.{_^_, _<_};
+ghost use Rattle.breadcrumb.specs.Answers.{doneOf, placeOf, askedOf, countedOf, pagedOf};
+ghost use Rattle.answers.specs.Pairs.{saidOf};
+ghost use Rattle.capi.specs.Packing.{pack, Packs, Within, nothing, placeWord, askWord, countWord, extentWord};
+
+// Number × 2^56 + value.
+pub(crate) fn packed(said: Said) -> u64
+    requires { ⌜ Packs said ⌝ }
+    ensures { λ r. ⌜ r ≡ pack said ⌝ }
+{
+    said.number * 72057594037927936 + said.value
+}
+
+// What a fresh, a check or a merge gives.
+pub(crate) fn done(given: Done) -> Said
+    ensures { λ s. ⌜ s ≡ saidOf nothing (doneOf given) ⌝ }
+{
+    match given {
+        Done::Accepted => Said {
+            number: 0,
+            value: 0,
+        },
+        Done::Refused(why) => refused(why),
+    }
+}
+
+// What an ask gives.
+pub(crate) fn asked(given: Answer) -> Said
+    requires { ⌜ Within askWord (2 ^ 56) (askedOf given) ⌝ }
+    ensures { λ s. ⌜ s ≡ saidOf askWord (askedOf given) ⌝ }
+{
+    match given {
+        Answer::Accepted(found) => {
+            let place = found.place;
+            Said {
+                number: 0,
+                value: (found.reads as u64) + place_word(place),
+            }
+        }
+        Answer::Refused(why) => refused(why),
+    }
+}
+
+// 16 × place + 256 × slot.
+fn place_word(place: Place) -> u64
+    requires { ⌜ placeWord (placeOf place) < 2 ^ 56 ⌝ }
+    ensures { λ n. ⌜ n ≡ placeWord (placeOf place) ⌝ }
+{
+    match place {
+        Place::Nowhere => 0,
+        Place::Front(slot) => 16 + 256 * (slot as u64),
+        Place::First(slot) => 32 + 256 * (slot as u64),
+        Place::Second(slot) => 48 + 256 * (slot as u64),
+    }
+}
+
+// What a count gives.
+pub(crate) fn counted(given: Tally) -> Said
+    requires { ⌜ Within countWord (2 ^ 56) (countedOf given) ⌝ }
+    ensures { λ s. ⌜ s ≡ saidOf countWord (countedOf given) ⌝ }
+{
+    match given {
+        Tally::Accepted(tally) => Said {
+            number: 0,
+            value: (tally.copies as u64) + 4294967296 * (tally.reads as u64),
+        },
+        Tally::Refused(why) => refused(why),
+    }
+}
+
+// What a page gives.
+pub(crate) fn paged(given: Paged) -> Said
+    requires { ⌜ Within extentWord (2 ^ 56) (pagedOf given) ⌝ }
+    ensures { λ s. ⌜ s ≡ saidOf extentWord (pagedOf given) ⌝ }
+{
+    match given {
+        Paged::Accepted(n, next) => Said {
+            number: 0,
+            value: (n as u64) + 4294967296 * (next as u64),
+        },
+        Paged::Refused(why) => refused(why),
+    }
+}
