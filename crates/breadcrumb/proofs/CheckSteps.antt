@@ -1,9 +1,9 @@
 -- The steps of a check: what a pass over buckets or members still has before it, turn by turn; what is known once every bucket was read.
 -- Main results: `front-on`, `back-on`, `early-on`, `members-on` with their `-stop` and `-end`, `all-read`, `held-count`.
-use mathlib.Core.Path.{_≡_, refl, _∙_}
-use Prim.Native.Nat.{ℕ, zero, suc, _+_, _*_, _/_, _%_, _-_, _≤_, _<_}
-use mathlib.Core.Bool.{Bool, true, false, _&&_}
-use mathlib.Core.List.{List, [], _∷_}
+use mathlib.Core.Path.{_≡_, refl}
+use Prim.Native.Nat.{ℕ, suc, _+_, _/_, _%_, _-_, _≤_, _<_}
+use mathlib.Core.Bool.{Bool, true, false}
+use mathlib.Core.List.{List}
 use mathlib.Core.Option.{Option, none, some}
 use native.Mathlib.Numerals.{add-one}
 use native.Mathlib.Omega.{arith}
@@ -25,7 +25,7 @@ use Rattle.minifilter.specs.Buckets.{frontMembers, backMembers}
 use Rattle.minifilter.specs.Readings.{minisOf, readingOf}
 use Rattle.minifilter.specs.Edits.{Sound, membersOf, spanOf}
 use Rattle.minifilter.proofs.FindLaws.{held}
-use Rattle.machine.specs.Results.{Result, accepted, refused}
+use Rattle.machine.specs.Results.{accepted, refused}
 use Rattle.machine.specs.Images.{bucketAt, frontAt, backAt}
 use Rattle.machine.specs.Checks.{unsoundFront, unsoundBack, inTurn, homeInTurn, allInTurn, early}
 use Rattle.breadcrumb.specs.Steps.{inFront, inBack, BackIn, FrontRead, BackRead}

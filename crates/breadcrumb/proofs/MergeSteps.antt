@@ -1,6 +1,6 @@
--- The steps of a merge: what a checked image gives, one front bucket's members put into the target one by one, and the shortcut of a front
--- bucket whose bytes serve as the merged one. Main results: `insertAll-append`, `insertAll-good`, `members-parts`, `front-served`,
--- `served`, `merge-on`, `merge-stop`.
+-- The steps of a merge: what a checked image gives, keys put into the target one by one, and the shortcut of a front bucket whose bytes
+-- serve as the merged one. Main results: `good-of`, `members-parts`, `insertAll-append`, `insertAll-good`, `front-filled`, `front-taken`,
+-- `key-took` and `key-full`, `merge-on` and `merge-end`, `check-refuses`.
 use mathlib.Core.Path.{_≡_, refl, sym, _∙_, ap}
 use Prim.Native.Nat.{ℕ, zero, suc, _+_, _*_, _-_, _≤_, _<_}
 use mathlib.Core.Bool.{Bool, true, false, cond}
@@ -13,10 +13,10 @@ use lib.ListN.{length, take, drop, getD, length-append, length-drop, take-append
 use lib.Seq.{take-at, drop-at, drop-append-le, drop-cons, drop-drop, length-take-le}
 use lib.Dec.{T, eqb, ltb}
 use borrow.Author.Tests.{lt-ltb, eqb-true, eqb-false}
-use Rattle.multiset.specs.Multisets.{added, copies, largest, ascending, Below}
+use Rattle.multiset.specs.Multisets.{added, copies, ascending, Below}
 use Rattle.multiset.proofs.MultisetLaws.{hit-same, copies-cons, copies-append, copies-added, ascending-tail, ascending-cons, ascending-added, ascending-unique, head-least, largest-max, length-added}
 use Rattle.multiset.proofs.DigitLaws.{below-drop}
-use Rattle.crumbmap.specs.Layouts.{Layout, layout1, keys, keys as allKeys, fronts, backyards}
+use Rattle.crumbmap.specs.Layouts.{Layout, layout1, keys as allKeys, fronts, backyards}
 use Rattle.crumbmap.specs.CrumbMap.{firstBucket, secondBucket}
 use Rattle.crumbmap.proofs.CrumbMapLaws.{bucketOf-lt}
 use Rattle.minifilter.specs.Buckets.{Fits64, frontBytes, FrontList}
@@ -25,7 +25,7 @@ use Rattle.minifilter.proofs.FindLaws.{fits1, front-bytes}
 use Rattle.machine.specs.Results.{Result, accepted, refused, andThen}
 use Rattle.machine.specs.Images.{lengthOf, bucketAt, put, frontAt, putFront, emptyImage}
 use Rattle.machine.specs.Bags.{addedAll}
-use Rattle.machine.specs.Machine.{Change, insertAt, membersAt, overflow}
+use Rattle.machine.specs.Machine.{Change, insertAt, membersAt}
 use Rattle.machine.specs.Merges.{insertAll, mergeFrom}
 use Rattle.machine.specs.Calls.{freshOf, written}
 use Rattle.machine.specs.Checks.{unless, unsoundFront, unsoundBack, early, checkSized}
@@ -36,18 +36,18 @@ use Rattle.breadcrumb.specs.declared.Done.{Done}
 use Rattle.breadcrumb.specs.declared.Done.the-variants as D
 use Rattle.breadcrumb.specs.declared.Changed.{Changed}
 use Rattle.breadcrumb.specs.declared.Changed.the-variants as C
-use Rattle.breadcrumb.specs.Steps.{inFront, inBack, FrontIn, FrontRead, BackRead, BothRead}
+use Rattle.breadcrumb.specs.Steps.{inFront, FrontRead}
 use Rattle.breadcrumb.specs.Listings.{Listed, ImageIn, overflowIn, behindIn, membersIn, MembersRead}
 use Rattle.breadcrumb.specs.Passes.{AllRead, SizedAs, Checked, reached, served, bothInserted}
-use Rattle.machine.proofs.BagLaws.{copies-addedAll, length-addedAll, ascending-addedAll}
+use Rattle.machine.proofs.BagLaws.{copies-addedAll, ascending-addedAll}
 use Rattle.machine.proofs.ImageLaws.{front-inside, sizeOf-some}
 use Rattle.breadcrumb.proofs.ListLaws.{addedAll-nil}
 use Rattle.machine.proofs.ImageLaws.{below-bucket}
-use Rattle.breadcrumb.proofs.ListingLaws.{behind-order, members-range, members-at}
+use Rattle.breadcrumb.proofs.ListingLaws.{behind-order, members-range}
 use Rattle.machine.proofs.Invariant.{Good, frontView, backView, part, over, total}
 use Rattle.machine.proofs.Overflow.{copies-overs}
 use Rattle.machine.proofs.Members.{front-added}
-use Rattle.machine.proofs.Changes.{good-length, length-putFront, frontAt-putFront}
+use Rattle.machine.proofs.Changes.{length-putFront, frontAt-putFront}
 use Rattle.machine.proofs.InsertLaws.{Inserted, took, stuck, insert-keeps}
 use Rattle.machine.proofs.CheckLaws.{check-good, good-checked}
 use Rattle.breadcrumb.proofs.CheckSteps.{front-was-read, back-was-read}
@@ -123,7 +123,7 @@ module _ (L : Layout) (B f : ℕ) where
 
 module _ (L : Layout) (fits : Fits64 L) (B f : ℕ) (h : f < fronts B) where
   -- what took all of a list is good
-  pub insertAll-good : (xs img : List ℕ) {now : List ℕ} → Good L B img → Below (keys L) xs → insertAll L B f xs img ≡ accepted now
+  pub insertAll-good : (xs img : List ℕ) {now : List ℕ} → Good L B img → Below (allKeys L) xs → insertAll L B f xs img ≡ accepted now
       → Good L B now × More L B f xs img now
   insertAll-good xs img {now} good b e = go (insertAll-keeps L fits B f xs img good h b)
     where
@@ -138,7 +138,7 @@ module _ (L : Layout) (fits : Fits64 L) (B f : ℕ) (h : f < fronts B) where
 
   -- keys that all find a slot in front
   pub front-filled : (zs ws img : List ℕ) → length img ≡ lengthOf B → FrontList L ws → frontAt L f img ≡ accepted ws → putFront L f ws img ≡ img
-      → Below (keys L) zs → length ws + length zs ≤ L .frontSlots → insertAll L B f zs img ≡ accepted (putFront L f (addedAll zs ws) img)
+      → Below (allKeys L) zs → length ws + length zs ≤ L .frontSlots → insertAll L B f zs img ≡ accepted (putFront L f (addedAll zs ws) img)
   unfolding insertAll addedAll
   front-filled [] ws img long list read same b r = rw same
   front-filled (z ∷ zs) ws img long list read same b r =
@@ -222,9 +222,9 @@ module _ (B f : ℕ) (img : List ℕ) (good : Good layout1 B img) (all : AllRead
   pub behind-rest : (n : ℕ) → length (inFront f img) ≡ n → drop n (membersIn B f img) ≡ behindIn B f img
   behind-rest n e = rw members-parts (drop-at (inFront f img) (behindIn B f img) n e)
 
-  pub behind-range : Below (keys layout1) (behindIn B f img)
+  pub behind-range : Below (allKeys layout1) (behindIn B f img)
   behind-range =
-      rw (behind-rest (length (inFront f img)) refl) at (below-drop (keys layout1) (length (inFront f img)) (membersIn B f img) (members-range B f img members-read))
+      rw (behind-rest (length (inFront f img)) refl) at (below-drop (allKeys layout1) (length (inFront f img)) (membersIn B f img) (members-range B f img members-read))
 
   -- those put in one by one: front, then behind
   pub parts-inserted : (target : List ℕ) → insertAll layout1 B f (membersIn B f img) target
@@ -373,7 +373,7 @@ untouched-front B f img good all h u =
     sym (view-front B f img good all h) ∙ none-there (frontView layout1 B f img) (λ y. omega (arith, u f y (omega arith) h))
 
 -- a target that took front bucket f of both is good, and untouched past f
-pub both-good : (B f : ℕ) (a b img : List ℕ) {now : List ℕ} → f < fronts B → Below (keys layout1) (membersIn B f a) → Below (keys layout1) (membersIn B f b)
+pub both-good : (B f : ℕ) (a b img : List ℕ) {now : List ℕ} → f < fronts B → Below (allKeys layout1) (membersIn B f a) → Below (allKeys layout1) (membersIn B f b)
     → Good layout1 B img → Untouched B f img → bothInserted B f a b img ≡ accepted now → Good layout1 B now × Untouched B (f + 1) now
 unfolding bothInserted
 both-good B f a b img {now} h range-a range-b good u e = go (insertAll layout1 B f (membersIn B f a) img) refl e

@@ -1,9 +1,9 @@
-use borrow.Author.Tests.{not-true, not-false}
+-- The loop's invariant: all members are in turn where those from the slot on are. The measure is what is left of them.
 use mathlib.Core.Path.{_≡_, refl, sym, _∙_}
-use Prim.Native.Nat.{ℕ, _+_, _*_, _/_, _%_, _-_, _≤_, _<_}
+use Prim.Native.Nat.{ℕ, _/_, _%_, _-_, _≤_, _<_}
 use native.Mathlib.Omega.{arith}
-use borrow.Author.Needs.{needs}
 use lib.ListN.{length, drop, getD}
+use borrow.Author.Tests.{not-true, not-false}
 use Rattle.crumbmap.specs.Layouts.{layout1}
 use Rattle.crumbmap.specs.CrumbMap.{home}
 use Rattle.machine.specs.Checks.{homeInTurn, allInTurn}
@@ -11,11 +11,6 @@ use Rattle.breadcrumb.specs.Steps.{inBack, BackRead}
 use Rattle.breadcrumb.proofs.CheckSteps.{members-on, members-stop, members-end}
 use Rattle.breadcrumb.proofs.check.bucket_in_turn.Statement.{statement}
 use Rattle.breadcrumb.proofs.check.bucket_in_turn.Tie as tie
-use Rattle.breadcrumb.proofs.check.bucket_in_turn.Reads as reads
-use Rattle.breadcrumb.proofs.check.bucket_in_turn.Lts as lts
-use Rattle.breadcrumb.proofs.check.member_in_turn.Reads as member-in-turn-reads
-use Rattle.breadcrumb.proofs.image.count_back_at.Reads as count-back-at-reads
-use Rattle.breadcrumb.proofs.image.member_back_at.Reads as member-back-at-reads
 
 abbrev Inv-loop : tie.InvT-loop
 Inv-loop image size bucket n slot₀ slot = (slot ≤ n) × (allInTurn layout1 size (bucket .0) image (inBack size (bucket .0) image) ≡ allInTurn layout1 size (bucket .0) image (drop slot (inBack size (bucket .0) image)))
@@ -23,11 +18,9 @@ Inv-loop image size bucket n slot₀ slot = (slot ≤ n) × (allInTurn layout1 s
 abbrev μ-loop : tie.MeasureT-loop
 μ-loop image size bucket n slot₀ slot = n - slot
 
--- src/check.rt:109:9
 count-back-at-requires : tie.Need-count-back-at-requires Inv-loop μ-loop
 count-back-at-requires c κs = let s = c .before in s .pre .0 .back (s .args .bucket .0) (s .pre .1)
 
--- src/check.rt:111:5
 loop-holds : tie.Need-loop-holds Inv-loop μ-loop
 loop-holds c = (omega arith, refl)
 
@@ -39,11 +32,9 @@ more : (c : tie.In-loop Inv-loop μ-loop)
     → c .before .loop .slot < length (inBack (c .before .before .before .before .args .size) (c .before .before .before .before .args .bucket .0) (c .before .before .before .before .args .image .now))
 more c = omega (arith, c .before .before .count-back-at .ensures)
 
--- src/check.rt:112:13
 member-back-at-requires : tie.Need-member-back-at-requires Inv-loop μ-loop
 member-back-at-requires c κs = (read c, more c)
 
--- src/check.rt:113:13
 member-in-turn-requires : tie.Need-member-in-turn-requires Inv-loop μ-loop
 member-in-turn-requires c κs = c .before .before .before .before .before .pre
 
@@ -53,7 +44,6 @@ told : (c : tie.After-member-in-turn Inv-loop μ-loop) → let a : _ = c .before
     c .member-in-turn .result ≡ homeInTurn layout1 (home (a .size) (a .bucket .0) (y % 16)) (y / 16) (a .image .now)
 told c = rw (c .before .member-back-at .ensures) at (c .member-in-turn .ensures)
 
--- src/check.rt:114:13
 returns : tie.Need-returns Inv-loop μ-loop
 returns c =
     let i = c .before .before .before in
@@ -62,15 +52,12 @@ returns c =
     ∙ members-stop (a .size) (a .bucket .0) (a .image .now) (inBack (a .size) (a .bucket .0) (a .image .now)) (i .before .loop .slot) (more i)
     (sym (told (c .before)) ∙ not-true _ (c .if1 .taken)))
 
--- src/check.rt:116:9
 add-slot : tie.Need-add-slot Inv-loop μ-loop
 add-slot c = omega arith
 
--- src/check.rt:111:5
 loop-less : tie.Need-loop-less Inv-loop μ-loop
 loop-less c = omega arith
 
--- src/check.rt:111:5
 loop-again : tie.Need-loop-again Inv-loop μ-loop
 loop-again c =
     let i = c .before .before .before in
@@ -81,7 +68,6 @@ loop-again c =
           (sym (told (c .before)) ∙ not-false _ (c .if1 .left)),
     )
 
--- src/check.rt:105:1
 returns-2 : tie.Need-returns-2 Inv-loop μ-loop
 returns-2 c =
     let a = c .before .before .before .before .args in

@@ -1,6 +1,7 @@
-use mathlib.Core.Path.{_≡_, _∙_}
+-- Check is the machine's at the image's size, or the refusal of a length that no image has.
+use mathlib.Core.Path.{_≡_}
+use mathlib.Core.Option.{some}
 use lib.ListN.{length}
-use mathlib.Core.Option.{none, some}
 use Rattle.machine.specs.Images.{sizeOf}
 use Rattle.machine.specs.Calls.{checkOf}
 use Rattle.machine.proofs.ImageLaws.{sizeOf-some}
@@ -8,24 +9,16 @@ use Rattle.breadcrumb.proofs.StepLaws.{size-some, size-none}
 use borrow.Author.Needs.{needs}
 use Rattle.breadcrumb.proofs.check.check.Statement.{statement}
 use Rattle.breadcrumb.proofs.check.check.Tie as tie
-use Rattle.breadcrumb.proofs.check.check.Reads as reads
-use Rattle.breadcrumb.proofs.check.check.Lts as lts
-use Rattle.breadcrumb.proofs.check.check_sized.Reads as check-sized-reads
-use Rattle.breadcrumb.proofs.image.size_of.Reads as size-of-reads
 
--- src/check.rt:33:31
 size-of-requires : tie.Need-size-of-requires
 size-of-requires c κs = search needs
 
--- src/check.rt:33:23
 enum-known-size : tie.Need-enum-known-size
 enum-known-size c = search needs
 
--- src/check.rt:34:30
 enum-told : tie.Need-enum-told
 enum-told c = search needs
 
--- src/check.rt:34:9
 returns : tie.Need-returns
 unfolding checkOf
 returns c =
@@ -36,11 +29,9 @@ returns c =
 sized : (c : tie.After-size) → sizeOf (length (c .before .before .before .before .args .image .now)) ≡ some (c .size .given .0 .0)
 sized c = size-some (sizeOf (length (c .before .before .before .before .args .image .now))) (c .before .before .size-of .ensures) (c .size .given .1)
 
--- src/check.rt:36:5
 check-sized-requires : tie.Need-check-sized-requires
 check-sized-requires c κs = let s = sizeOf-some _ _ (sized (c .before)) in record { long = s .0; small = s .2 }
 
--- src/check.rt:30:1
 returns-2 : tie.Need-returns-2
 unfolding checkOf
 returns-2 c = rw (sized (c .before .before)) (c .check-sized .ensures)

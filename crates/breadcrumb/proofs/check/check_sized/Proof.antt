@@ -1,38 +1,28 @@
+-- Each pass that found nothing leads to the next; what it found is the machine's refusal.
 use mathlib.Core.Path.{_≡_}
-use mathlib.Core.Option.{none, some}
+use mathlib.Core.Option.{none}
 use Rattle.crumbmap.specs.Layouts.{layout1, fronts, backyards}
 use Rattle.machine.specs.Checks.{unsoundFront, unsoundBack, early, checkSized}
 use Rattle.breadcrumb.proofs.CheckSteps.{fault-none, fault-some, all-read}
 use borrow.Author.Needs.{needs}
 use Rattle.breadcrumb.proofs.check.check_sized.Statement.{statement}
 use Rattle.breadcrumb.proofs.check.check_sized.Tie as tie
-use Rattle.breadcrumb.proofs.check.check_sized.Reads as reads
-use Rattle.breadcrumb.proofs.check.check_sized.Lts as lts
-use Rattle.breadcrumb.proofs.check.first_early.Reads as first-early-reads
-use Rattle.breadcrumb.proofs.check.unsound_back.Reads as unsound-back-reads
-use Rattle.breadcrumb.proofs.check.unsound_front.Reads as unsound-front-reads
 
--- src/check.rt:44:11
 unsound-front-requires : tie.Need-unsound-front-requires
 unsound-front-requires c κs = search needs
 
--- src/check.rt:45:19
 enum-known-table : tie.Need-enum-known-table
 enum-known-table c = search needs
 
--- src/check.rt:46:33
 enum-told : tie.Need-enum-told
 enum-told c = search needs
 
--- src/check.rt:46:33
 unsound-back-requires : tie.Need-unsound-back-requires
 unsound-back-requires c κs = search needs
 
--- src/check.rt:47:23
 enum-known-table-2 : tie.Need-enum-known-table-2
 enum-known-table-2 c = search needs
 
--- src/check.rt:48:37
 enum-told-2 : tie.Need-enum-told-2
 enum-told-2 c = search needs
 
@@ -48,29 +38,24 @@ no-back c =
     let a = c .before .before .before .before .before .before .before .args in
     fault-none (unsoundBack layout1 (a .size) (backyards (a .size)) 0 (a .image .now)) (c .before .before .unsound-back .ensures) (c .enum-told2 .given .1)
 
--- src/check.rt:48:37
 first-early-requires : tie.Need-first-early-requires
 first-early-requires c κs =
     let s = c .before .before .before .before .before .before .before in
     all-read (s .args .size) (s .args .image .now) (s .pre) (λ i. c .before .before .before .before .before .before .shared-slice-known .given i .fits)
     (no-front (c .before .before .before)) (no-back c)
 
--- src/check.rt:49:27
 enum-known-table-3 : tie.Need-enum-known-table-3
 enum-known-table-3 c = search needs
 
--- src/check.rt:50:35
 enum-told-3 : tie.Need-enum-told-3
 enum-told-3 c = search needs
 
--- src/check.rt:40:1
 returns : tie.Need-returns
 unfolding checkSized
 returns c =
     let a = c .before .before .before .before .before .args in
     rw (fault-some (unsoundFront layout1 (fronts (a .size)) 0 (a .image .now)) (c .before .before .before .unsound-front .ensures) (c .before .table .given .1))
 
--- src/check.rt:40:1
 returns-2 : tie.Need-returns-2
 unfolding checkSized
 returns-2 c =
@@ -80,7 +65,6 @@ returns-2 c =
       fault-some (unsoundBack layout1 (a .size) (backyards (a .size)) 0 (a .image .now)) (c .before .before .before .unsound-back .ensures) (c .before .table2 .given .1),
     )
 
--- src/check.rt:40:1
 returns-3 : tie.Need-returns-3
 unfolding checkSized
 returns-3 c =
@@ -91,7 +75,6 @@ returns-3 c =
       fault-some (early layout1 (a .size) (backyards (a .size)) 0 (a .image .now)) (c .before .before .before .first-early .ensures) (c .before .table3 .given .1),
     )
 
--- src/check.rt:40:1
 returns-4 : tie.Need-returns-4
 unfolding checkSized
 returns-4 c =

@@ -1,19 +1,15 @@
-use borrow.Author.Tests.{not-true, not-false}
+-- The loop's invariant: the first bucket with a member before its turn is the first from j on. The measure is what is left of them.
+use mathlib.Core.Path.{_≡_, sym, _∙_}
+use Prim.Native.Nat.{_-_, _≤_, _<_}
 use native.Mathlib.Nat.{sub-zero}
-use Rattle.breadcrumb.specs.Steps.{BackRead}
-use mathlib.Core.Path.{_≡_, refl, sym, _∙_}
-use Prim.Native.Nat.{_+_, _*_, _-_, _≤_, _<_}
 use native.Mathlib.Omega.{arith}
-use borrow.Author.Needs.{needs}
+use borrow.Author.Tests.{not-true, not-false}
 use Rattle.crumbmap.specs.Layouts.{layout1, backyards}
 use Rattle.machine.specs.Checks.{early}
 use Rattle.breadcrumb.proofs.CheckSteps.{early-on, early-stop, early-end}
+use borrow.Author.Needs.{needs}
 use Rattle.breadcrumb.proofs.check.first_early.Statement.{statement}
 use Rattle.breadcrumb.proofs.check.first_early.Tie as tie
-use Rattle.breadcrumb.proofs.check.first_early.Reads as reads
-use Rattle.breadcrumb.proofs.check.first_early.Lts as lts
-use Rattle.breadcrumb.proofs.check.bucket_in_turn.Reads as bucket-in-turn-reads
-use Rattle.breadcrumb.proofs.image.table_of.Reads as table-of-reads
 
 abbrev Inv-loop : tie.InvT-loop
 Inv-loop image size end j₀ j = (j ≤ end) × (early layout1 size (backyards size) 0 image ≡ early layout1 size (backyards size - j) j image)
@@ -21,11 +17,9 @@ Inv-loop image size end j₀ j = (j ≤ end) × (early layout1 size (backyards s
 abbrev μ-loop : tie.MeasureT-loop
 μ-loop image size end j₀ j = end - j
 
--- src/check.rt:93:15
 add-end : tie.Need-add-end Inv-loop μ-loop
 add-end c = search needs
 
--- src/check.rt:95:5
 loop-holds : tie.Need-loop-holds Inv-loop μ-loop
 loop-holds c = (omega arith, rw sub-zero)
 
@@ -34,15 +28,12 @@ inside : (c : tie.In-loop Inv-loop μ-loop) → c .before .loop .j < backyards (
 unfolding backyards
 inside c = omega arith
 
--- src/check.rt:96:13
 bucket-in-turn-requires : tie.Need-bucket-in-turn-requires Inv-loop μ-loop
 bucket-in-turn-requires c κs = (c .before .before .before .pre, inside c)
 
--- src/check.rt:97:30
 table-of-requires : tie.Need-table-of-requires Inv-loop μ-loop
 table-of-requires c κs = let i = c .before .before in (i .before .before .before .pre .whole .small, inside i)
 
--- src/check.rt:97:13
 returns : tie.Need-returns Inv-loop μ-loop
 returns c =
     let i = c .before .before .before in
@@ -55,15 +46,12 @@ returns c =
           (sym (c .before .before .bucket-in-turn .ensures) ∙ not-true _ (c .before .if1 .taken)),
     )
 
--- src/check.rt:99:9
 add-j : tie.Need-add-j Inv-loop μ-loop
 add-j c = omega (arith, c .before .before .before .before .before .pre .whole .small)
 
--- src/check.rt:95:5
 loop-less : tie.Need-loop-less Inv-loop μ-loop
 loop-less c = omega arith
 
--- src/check.rt:95:5
 loop-again : tie.Need-loop-again Inv-loop μ-loop
 loop-again c =
     let i = c .before .before in
@@ -75,7 +63,6 @@ loop-again c =
           (sym (c .before .bucket-in-turn .ensures) ∙ not-false _ (c .if1 .left)),
     )
 
--- src/check.rt:89:1
 returns-2 : tie.Need-returns-2 Inv-loop μ-loop
 unfolding backyards
 returns-2 c =

@@ -1,8 +1,9 @@
-use mathlib.Core.Path.{_≡_, sym, _∙_}
-use Prim.Native.Nat.{_/_, _%_, _<_}
+-- A member is in turn where its front bucket holds 28 and its largest is at most the member's key.
+use mathlib.Core.Path.{_≡_, sym}
+use Prim.Native.Nat.{_/_, _%_}
 use mathlib.Core.Option.{some}
-use lib.ListN.{length}
 use native.Mathlib.Omega.{arith}
+use lib.ListN.{length}
 use Rattle.crumbmap.specs.CrumbMap.{home}
 use Rattle.crumbmap.proofs.CrumbMapLaws.{home-lt}
 use Rattle.breadcrumb.specs.Steps.{inFront, FrontRead}
@@ -10,25 +11,16 @@ use Rattle.breadcrumb.proofs.CheckSteps.{home-none, home-some, turn-sho
 use borrow.Author.Needs.{needs}
 use Rattle.breadcrumb.proofs.check.member_in_turn.Statement.{statement}
 use Rattle.breadcrumb.proofs.check.member_in_turn.Tie as tie
-use Rattle.breadcrumb.proofs.check.member_in_turn.Reads as reads
-use Rattle.breadcrumb.proofs.check.member_in_turn.Lts as lts
-use Rattle.breadcrumb.proofs.image.count_front_at.Reads as count-front-at-reads
-use Rattle.breadcrumb.proofs.image.largest_front_at.Reads as largest-front-at-reads
-use Rattle.crumbmap.proofs.map.home_of.Reads as home-of-reads
 
--- src/check.rt:126:27
 home-of-requires : tie.Need-home-of-requires
 home-of-requires c κs = search needs
 
--- src/check.rt:126:18
 enum-known-front : tie.Need-enum-known-front
 enum-known-front c = search needs
 
--- src/check.rt:127:9
 enum-told : tie.Need-enum-told
 enum-told c = search needs
 
--- src/check.rt:127:9
 returns : tie.Need-returns
 returns c =
     let a = c .before .before .before .before .args in
@@ -50,22 +42,18 @@ read c =
 all-held : (c : tie.Else1) → length (inFront (c .before .before .before .front .given .0 .0 .0) (start (c .before .before .before) .args .image .now)) ≡ 28
 all-held c = omega (arith, c .if1 .left, c .before .count-front-at .ensures, read (c .before .before .before) .list .room)
 
--- src/check.rt:129:8
 count-front-at-requires : tie.Need-count-front-at-requires
 count-front-at-requires c κs = read (c .before)
 
--- src/check.rt:130:9
 returns-2 : tie.Need-returns-2
 returns-2 c =
     let t = c .before .before .before in
     let a = start t .args in
     rw (homed t) (sym (turn-short (a .member / 16) (t .front .given .0 .0 .0) (a .image .now) (read t) (omega (arith, c .before .count-front-at .ensures))))
 
--- src/check.rt:132:5
 largest-front-at-requires : tie.Need-largest-front-at-requires
 largest-front-at-requires c κs = (read (c .before .before .before), all-held c)
 
--- src/check.rt:122:1
 returns-3 : tie.Need-returns-3
 returns-3 c =
     let t = c .before .before .before .before in

@@ -1,20 +1,17 @@
+-- The loop's invariant: the first unsound backyard bucket is the first from j on. The measure is what is left of them.
+use mathlib.Core.Path.{_≡_, _∙_}
+use Prim.Native.Nat.{_-_, _≤_, _<_}
 use native.Mathlib.Nat.{sub-zero}
-use Rattle.breadcrumb.specs.Steps.{BackIn}
-use mathlib.Core.Path.{_≡_, refl, sym, _∙_}
-use Prim.Native.Nat.{_+_, _*_, _-_, _≤_, _<_}
 use native.Mathlib.Omega.{arith}
-use borrow.Author.Needs.{needs}
 use Rattle.crumbmap.specs.Layouts.{layout1, backyards}
+use Rattle.breadcrumb.specs.Steps.{BackIn}
 use Rattle.machine.specs.Checks.{unsoundBack}
 use Rattle.machine.proofs.ImageLaws.{back-inside}
 use Rattle.breadcrumb.proofs.StepLaws.{back-read, back-unsound}
 use Rattle.breadcrumb.proofs.CheckSteps.{back-on, back-stop, back-end}
+use borrow.Author.Needs.{needs}
 use Rattle.breadcrumb.proofs.check.unsound_back.Statement.{statement}
 use Rattle.breadcrumb.proofs.check.unsound_back.Tie as tie
-use Rattle.breadcrumb.proofs.check.unsound_back.Reads as reads
-use Rattle.breadcrumb.proofs.check.unsound_back.Lts as lts
-use Rattle.breadcrumb.proofs.image.read_back_at.Reads as read-back-at-reads
-use Rattle.breadcrumb.proofs.image.table_of.Reads as table-of-reads
 
 abbrev Inv-loop : tie.InvT-loop
 Inv-loop image size end j₀ j = (j ≤ end) × (unsoundBack layout1 size (backyards size) 0 image ≡ unsoundBack layout1 size (backyards size - j) j image)
@@ -22,11 +19,9 @@ Inv-loop image size end j₀ j = (j ≤ end) × (unsoundBack layout1 size (backy
 abbrev μ-loop : tie.MeasureT-loop
 μ-loop image size end j₀ j = end - j
 
--- src/check.rt:77:15
 add-end : tie.Need-add-end Inv-loop μ-loop
 add-end c = search needs
 
--- src/check.rt:79:5
 loop-holds : tie.Need-loop-holds Inv-loop μ-loop
 loop-holds c = (omega arith, rw sub-zero)
 
@@ -40,22 +35,18 @@ within c =
     let s = c .before .before .before in
     record { small = s .pre .small; bucket = inside c; inside = rw (s .pre .long) (back-inside (s .args .size) (c .before .loop .j) (inside c)) }
 
--- src/check.rt:80:35
 read-back-at-requires : tie.Need-read-back-at-requires Inv-loop μ-loop
 read-back-at-requires c κs = within c
 
 enum-told : tie.Need-enum-told Inv-loop μ-loop
 enum-told c = search needs
 
--- src/check.rt:81:45
 enum-told-2 : tie.Need-enum-told-2 Inv-loop μ-loop
 enum-told-2 c = search needs
 
--- src/check.rt:81:30
 table-of-requires : tie.Need-table-of-requires Inv-loop μ-loop
 table-of-requires c κs = let w = within (c .before .before .before) in (w .small, w .bucket)
 
--- src/check.rt:81:13
 returns : tie.Need-returns Inv-loop μ-loop
 returns c =
     let i = c .before .before .before .before in
@@ -68,15 +59,12 @@ returns c =
           (back-unsound (s .args .size) j (s .args .image .now) (c .before .before .before .read-back-at .ensures) (c .before .enum-told2 .given .1)),
     )
 
--- src/check.rt:83:9
 add-j : tie.Need-add-j Inv-loop μ-loop
 add-j c = omega (arith, c .before .before .before .before .before .before .pre .small)
 
--- src/check.rt:79:5
 loop-less : tie.Need-loop-less Inv-loop μ-loop
 loop-less c = omega arith
 
--- src/check.rt:79:5
 loop-again : tie.Need-loop-again Inv-loop μ-loop
 loop-again c =
     let i = c .before .before .before in
@@ -88,7 +76,6 @@ loop-again c =
           (back-read (s .args .size) j (s .args .image .now) (c .before .before .read-back-at .ensures) (c .enum-told .given .1) .0 .accepts),
     )
 
--- src/check.rt:73:1
 returns-2 : tie.Need-returns-2 Inv-loop μ-loop
 unfolding backyards
 returns-2 c =

@@ -1,13 +1,12 @@
+-- The loop's invariant: the bytes passed are copied. The measure is what is left of them.
 use mathlib.Core.Path.{_≡_, refl, sym, _∙_}
-use Prim.Native.Nat.{_+_, _-_, _≤_}
+use Prim.Native.Nat.{_-_, _≤_}
 use native.Mathlib.Numerals.{add-one}
 use native.Mathlib.Omega.{arith}
 use lib.ListN.{length, take, getD, length-set}
 use lib.Seq.{take-all, take-suc, take-suc-set}
 use Rattle.breadcrumb.proofs.image.copy_bytes.Statement.{statement}
 use Rattle.breadcrumb.proofs.image.copy_bytes.Tie as tie
-use Rattle.breadcrumb.proofs.image.copy_bytes.Reads as reads
-use Rattle.breadcrumb.proofs.image.copy_bytes.Lts as lts
 
 abbrev Inv-loop : tie.InvT-loop
 Inv-loop from to₀ i₀ to i = (i ≤ length from) × (length to ≡ length from) × (take i to ≡ take i from)
@@ -15,27 +14,21 @@ Inv-loop from to₀ i₀ to i = (i ≤ length from) × (length to ≡ length fro
 abbrev μ-loop : tie.MeasureT-loop
 μ-loop from to₀ i₀ to i = length from - i
 
--- src/image.rt:267:5
 loop-holds : tie.Need-loop-holds Inv-loop μ-loop
 loop-holds c = (omega arith, c .pre, refl)
 
--- src/image.rt:268:17
 shared-slice-read-to : tie.Need-shared-slice-read-to Inv-loop μ-loop
 shared-slice-read-to c = omega arith
 
--- src/image.rt:268:9
 slice-write-to : tie.Need-slice-write-to Inv-loop μ-loop
 slice-write-to c = omega arith
 
--- src/image.rt:269:9
 add-i : tie.Need-add-i Inv-loop μ-loop
 add-i c = omega arith
 
--- src/image.rt:267:5
 loop-less : tie.Need-loop-less Inv-loop μ-loop
 loop-less c = omega arith
 
--- src/image.rt:267:5
 loop-again : tie.Need-loop-again Inv-loop μ-loop
 loop-again c =
     let l = c .before .before .loop in
@@ -45,11 +38,9 @@ loop-again c =
       rw (add-one (l .i), take-suc-set (l .to) (l .i) (getD from (l .i) 0) (omega arith), take-suc from (l .i) 0 (omega arith), l .inv .2),
     )
 
--- src/image.rt:262:1
 same-length : tie.Need-same-length Inv-loop μ-loop
 same-length c = c .before .loop .inv .1 ∙ sym (c .before .before .pre)
 
--- src/image.rt:262:1
 returns : tie.Need-returns Inv-loop μ-loop
 returns c =
     let l = c .before .loop in

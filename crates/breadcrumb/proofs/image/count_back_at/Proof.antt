@@ -1,5 +1,6 @@
+-- How many members a backyard bucket holds: its word has 36 ones, and a mini-bucket for each member.
 use mathlib.Core.Path.{_≡_, _∙_}
-use Prim.Native.Nat.{ℕ, _+_, _*_}
+use Prim.Native.Nat.{ℕ, _+_}
 use mathlib.Core.Bool.{true}
 use mathlib.Core.List.{List}
 use lib.ListN.{length, take}
@@ -15,37 +16,25 @@ use Rattle.breadcrumb.proofs.CheckSteps.{held-count}
 use borrow.Author.Needs.{needs}
 use Rattle.breadcrumb.proofs.image.count_back_at.Statement.{statement}
 use Rattle.breadcrumb.proofs.image.count_back_at.Tie as tie
-use Rattle.breadcrumb.proofs.image.count_back_at.Reads as reads
-use Rattle.breadcrumb.proofs.image.count_back_at.Lts as lts
-use Rattle.breadcrumb.proofs.image.table_of.Reads as table-of-reads
-use Rattle.minifilter.proofs.word.occupancy.Reads as occupancy-reads
-use Rattle.minifilter.proofs.word.word_of.Reads as word-of-reads
 
--- src/image.rt:211:19
 table-of-requires : tie.Need-table-of-requires
 table-of-requires c κs = search needs
 
--- src/image.rt:211:14
 mul-at : tie.Need-mul-at
 mul-at c = search needs
 
--- src/image.rt:212:15
 add-end : tie.Need-add-end
 add-end c = search needs
 
--- src/image.rt:213:23
 sub-word-of : tie.Need-sub-word-of
 sub-word-of c = search needs
 
--- src/image.rt:213:23
 part-word-of-start : tie.Need-part-word-of-start
 part-word-of-start c = search needs
 
--- src/image.rt:213:23
 part-word-of-end : tie.Need-part-word-of-end
 part-word-of-end c = search needs
 
--- src/image.rt:213:15
 word-of-requires : tie.Need-word-of-requires
 word-of-requires c κs = search needs
 
@@ -65,11 +54,9 @@ counted c =
     held-count true (bytes c) (below-bucket (fronts (a .size) + a .bucket .0) (a .image .now) (λ i. c .before .before .before .shared-slice-known .given i .fits))
     (start c .pre .sound)
 
--- src/image.rt:213:5
 occupancy-requires : tie.Need-occupancy-requires
 occupancy-requires c κs = rw (word c) (counted c .0)
 
--- src/image.rt:207:1
 returns : tie.Need-returns
 returns c = c .occupancy .ensures .0 ∙ rw (word (c .before)) (counted (c .before) .1)
 

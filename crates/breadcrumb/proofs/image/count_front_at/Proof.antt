@@ -1,5 +1,7 @@
+-- How many members a front bucket holds: its word has 36 ones, and a mini-bucket for each member.
 use mathlib.Core.Path.{_≡_, _∙_}
-use Prim.Native.Nat.{ℕ, _+_, _*_}
+use Prim.Native.Nat.{ℕ}
+use mathlib.Core.Bool.{false}
 use mathlib.Core.List.{List}
 use lib.ListN.{length, take}
 use lib.Count.{ones}
@@ -7,40 +9,28 @@ use Rattle.multiset.specs.Digits.{value}
 use Rattle.minifilter.specs.Readings.{minisOf}
 use Rattle.minifilter.specs.Edits.{membersOf}
 use Rattle.machine.specs.Images.{bucketAt}
-use native.Mathlib.Omega.{arith}
 use Rattle.machine.proofs.ImageLaws.{below-bucket}
 use Rattle.breadcrumb.proofs.PartLaws.{part-bucket}
 use Rattle.breadcrumb.proofs.CheckSteps.{held-count}
-use mathlib.Core.Bool.{false}
 use borrow.Author.Needs.{needs}
 use Rattle.breadcrumb.proofs.image.count_front_at.Statement.{statement}
 use Rattle.breadcrumb.proofs.image.count_front_at.Tie as tie
-use Rattle.breadcrumb.proofs.image.count_front_at.Reads as reads
-use Rattle.breadcrumb.proofs.image.count_front_at.Lts as lts
-use Rattle.minifilter.proofs.word.occupancy.Reads as occupancy-reads
-use Rattle.minifilter.proofs.word.word_of.Reads as word-of-reads
 
--- src/image.rt:201:14
 mul-at : tie.Need-mul-at
 mul-at c = search needs
 
--- src/image.rt:202:15
 add-end : tie.Need-add-end
 add-end c = search needs
 
--- src/image.rt:203:23
 sub-word-of : tie.Need-sub-word-of
 sub-word-of c = search needs
 
--- src/image.rt:203:23
 part-word-of-start : tie.Need-part-word-of-start
 part-word-of-start c = search needs
 
--- src/image.rt:203:23
 part-word-of-end : tie.Need-part-word-of-end
 part-word-of-end c = search needs
 
--- src/image.rt:203:15
 word-of-requires : tie.Need-word-of-requires
 word-of-requires c κs = search needs
 
@@ -59,11 +49,9 @@ counted c =
     let a = start c .args in
     held-count false (bytes c) (below-bucket (a .front .0) (a .image .now) (λ i. c .before .before .shared-slice-known .given i .fits)) (start c .pre .sound)
 
--- src/image.rt:203:5
 occupancy-requires : tie.Need-occupancy-requires
 occupancy-requires c κs = rw (word c) (counted c .0)
 
--- src/image.rt:196:1
 returns : tie.Need-returns
 returns c = c .occupancy .ensures .0 ∙ rw (word (c .before)) (counted (c .before) .1)
 

@@ -1,4 +1,5 @@
-use mathlib.Core.Path.{_≡_, sym, _∙_}
+-- The 64 bytes that are lent are those of the front bucket that has members.
+use mathlib.Core.Path.{sym, _∙_}
 use lib.ListN.{length}
 use borrow.Author.Tests.{eq-eqb, ne-eqb}
 use Rattle.breadcrumb.specs.Steps.{inFront}
@@ -8,47 +9,34 @@ use Rattle.breadcrumb.proofs.PartLaws.{part-bucket}
 use borrow.Author.Needs.{needs}
 use Rattle.breadcrumb.proofs.image.whichever.Statement.{statement}
 use Rattle.breadcrumb.proofs.image.whichever.Tie as tie
-use Rattle.breadcrumb.proofs.image.whichever.Reads as reads
-use Rattle.breadcrumb.proofs.image.whichever.Lts as lts
-use Rattle.breadcrumb.proofs.image.count_front_at.Reads as count-front-at-reads
 
--- src/image.rt:242:14
 mul-at : tie.Need-mul-at
 mul-at c = search needs
 
--- src/image.rt:243:15
 add-end : tie.Need-add-end
 add-end c = search needs
 
--- src/image.rt:244:8
 count-front-at-requires : tie.Need-count-front-at-requires
 count-front-at-requires c κs = search needs
 
--- src/image.rt:245:9
 sub-result : tie.Need-sub-result
 sub-result c = search needs
 
--- src/image.rt:245:9
 part-result-start : tie.Need-part-result-start
 part-result-start c = search needs
 
--- src/image.rt:245:9
 part-result-end : tie.Need-part-result-end
 part-result-end c = search needs
 
--- src/image.rt:247:9
 sub-result-2 : tie.Need-sub-result-2
 sub-result-2 c = search needs
 
--- src/image.rt:247:9
 part-result-start-2 : tie.Need-part-result-start-2
 part-result-start-2 c = search needs
 
--- src/image.rt:247:9
 part-result-end-2 : tie.Need-part-result-end-2
 part-result-end-2 c = search needs
 
--- src/image.rt:237:1
 returns : tie.Need-returns
 unfolding served
 returns c =
@@ -59,7 +47,6 @@ returns c =
       rw part-bucket (length-bucketAt (a .front .0) (a .second .now) (s .pre .1 .inside)),
     )
 
--- src/image.rt:237:1
 returns-2 : tie.Need-returns-2
 unfolding served
 returns-2 c =

@@ -1,22 +1,16 @@
-use mathlib.Core.Path.{_≡_, sym, _∙_}
+-- Nothing is behind a front bucket with a free slot; behind one that holds 28 are its members from the 28th slot on.
 use Prim.Native.Nat.{ℕ, _<_}
 use native.Mathlib.Omega.{arith}
-use lib.ListN.{length, getD}
+use lib.ListN.{getD}
 use Rattle.crumbmap.specs.Layouts.{layout1}
 use Rattle.machine.specs.Merges.{insertAll}
-use Rattle.breadcrumb.specs.Steps.{FrontRead}
 use Rattle.breadcrumb.specs.Passes.{AllRead}
 use Rattle.machine.proofs.Invariant.{Good}
 use Rattle.breadcrumb.proofs.MergeSteps.{good-of, read-of, behind-few, behind-rest}
 use borrow.Author.Needs.{needs}
 use Rattle.breadcrumb.proofs.merge.add_behind.Statement.{statement}
 use Rattle.breadcrumb.proofs.merge.add_behind.Tie as tie
-use Rattle.breadcrumb.proofs.merge.add_behind.Reads as reads
-use Rattle.breadcrumb.proofs.merge.add_behind.Lts as lts
-use Rattle.breadcrumb.proofs.image.count_front_at.Reads as count-front-at-reads
-use Rattle.breadcrumb.proofs.merge.add_from.Reads as add-from-reads
 
--- the source is good, and its buckets were read
 abbrev bytes : (c : tie.After-slice-known) → (i : ℕ) → getD (c .before .before .args .source .now) i 0 < 256
 bytes c i = c .before .shared-slice-known .given i .fits
 
@@ -26,11 +20,9 @@ good c = good-of (c .before .before .args .size) (c .before .before .args .sourc
 all : (c : tie.After-slice-known) → AllRead (c .before .before .args .size) (c .before .before .args .source .now)
 all c = read-of (c .before .before .args .size) (c .before .before .args .source .now) (bytes c) (good c)
 
--- src/merge.rt:138:8
 count-front-at-requires : tie.Need-count-front-at-requires
 count-front-at-requires c κs = all c .front _ (c .before .before .pre .2)
 
--- src/merge.rt:139:9
 returns : tie.Need-returns
 unfolding insertAll
 returns c =
@@ -38,15 +30,12 @@ returns c =
     let s = p .before .before in
     rw (behind-few (s .args .size) (s .args .front .0) (s .args .source .now) (good p) (all p) (s .pre .2) (omega (arith, c .before .count-front-at .ensures, c .if1 .taken)))
 
--- src/merge.rt:141:5
 add-from-requires : tie.Need-add-from-requires
 add-from-requires c κs = search needs
 
--- src/merge.rt:133:1
 same-length : tie.Need-same-length
 same-length c = search needs
 
--- src/merge.rt:133:1
 returns-2 : tie.Need-returns-2
 returns-2 c =
     let p = c .before .before .before .before .before .before in

@@ -1,7 +1,8 @@
+-- The part of the list that is lent on is the members from `from` on.
 use mathlib.Core.Path.{_≡_, refl}
 use Prim.Native.Nat.{ℕ, _-_, _≤_, _<_}
 use native.Mathlib.Omega.{arith}
-use lib.ListN.{length, take, drop, getD}
+use lib.ListN.{take, drop, getD}
 use Rattle.multiset.proofs.DigitLaws.{below-drop}
 use Rattle.crumbmap.specs.Layouts.{layout1, keys as allKeys}
 use Rattle.breadcrumb.specs.Listings.{membersIn, MembersRead}
@@ -10,12 +11,7 @@ use Rattle.breadcrumb.proofs.MergeSteps.{good-of, read-of, members-read
 use borrow.Author.Needs.{needs}
 use Rattle.breadcrumb.proofs.merge.add_from.Statement.{statement}
 use Rattle.breadcrumb.proofs.merge.add_from.Tie as tie
-use Rattle.breadcrumb.proofs.merge.add_from.Reads as reads
-use Rattle.breadcrumb.proofs.merge.add_from.Lts as lts
-use Rattle.breadcrumb.proofs.listing.list_members.Reads as list-members-reads
-use Rattle.breadcrumb.proofs.merge.insert_all.Reads as insert-all-reads
 
--- src/merge.rt:152:47
 slice-aggregate-list-members : tie.Need-slice-aggregate-list-members
 slice-aggregate-list-members c = search needs
 
@@ -50,27 +46,21 @@ part : (c : tie.After-list-members) → let a : _ = c .before .before .before .b
     take (c .list-members .result - a .from) (drop (a .from) (c .list-members .last .1 .1 .1 .0)) ≡ drop (a .from) (membersIn (a .size) (a .front .0) (a .source .now))
 part c = part-listed _ _ _ _ _ (c .list-members .ensures) (enough c)
 
--- src/merge.rt:152:9
 list-members-requires : tie.Need-list-members-requires
 list-members-requires c κs = (read c, refl)
 
--- src/merge.rt:153:16
 mul-insert-all : tie.Need-mul-insert-all
 mul-insert-all c = omega (arith, c .before .before .before .before .before .pre .3, read (c .before .before) .front .list .room)
 
--- src/merge.rt:153:16
 sub-insert-all : tie.Need-sub-insert-all
 sub-insert-all c = enough (c .before)
 
--- src/merge.rt:153:16
 part-insert-all-start : tie.Need-part-insert-all-start
 part-insert-all-start c = enough (c .before .before)
 
--- src/merge.rt:153:16
 part-insert-all-end : tie.Need-part-insert-all-end
 part-insert-all-end c = let t = c .before .before in rw (t .list-members .kept .1 .1 .1 .0) (fits t)
 
--- src/merge.rt:153:5
 insert-all-requires : tie.Need-insert-all-requires
 insert-all-requires c κs =
     let t = c .before .before .before .before in
@@ -81,11 +71,9 @@ insert-all-requires c κs =
           (members-range (s .args .size) (s .args .front .0) (s .args .source .now) (read (t .before)))),
     )
 
--- src/merge.rt:145:1
 same-length : tie.Need-same-length
 same-length c = search needs
 
--- src/merge.rt:145:1
 returns : tie.Need-returns
 returns c = rw (part (c .before .before .before .before .before .before .before)) at (c .before .before .insert-all .ensures)
 

@@ -1,19 +1,17 @@
-use borrow.Author.Needs.{needs}
+-- The loop's invariant: the target is good, and what is left is to put in the keys from i on. The measure is what is left of them.
 use mathlib.Core.Path.{_≡_, refl, sym, _∙_}
-use Prim.Native.Nat.{ℕ, _+_, _-_, _≤_, _<_}
+use Prim.Native.Nat.{_-_, _≤_, _<_}
 use native.Mathlib.Omega.{arith}
-use lib.ListN.{length, drop, getD}
+use lib.ListN.{length, drop}
 use lib.Seq.{drop-length}
 use Rattle.crumbmap.specs.Layouts.{layout1}
 use Rattle.machine.specs.Merges.{insertAll}
 use Rattle.machine.proofs.ImageLaws.{sizeOf-some}
 use Rattle.machine.proofs.Invariant.{Good}
 use Rattle.breadcrumb.proofs.MergeSteps.{good-of, key-low, key-took, key-full}
+use borrow.Author.Needs.{needs}
 use Rattle.breadcrumb.proofs.merge.insert_all.Statement.{statement}
 use Rattle.breadcrumb.proofs.merge.insert_all.Tie as tie
-use Rattle.breadcrumb.proofs.merge.insert_all.Reads as reads
-use Rattle.breadcrumb.proofs.merge.insert_all.Lts as lts
-use Rattle.breadcrumb.proofs.insert.insert_at.Reads as insert-at-reads
 
 abbrev Inv-loop : tie.InvT-loop
 Inv-loop keys size front target₀ i₀ target i = (i ≤ length keys) × (length target ≡ length target₀) × Good layout1 size target × (insertAll layout1 size (front .0) keys target₀ ≡ insertAll layout1 size (front .0) (drop i keys) target)
@@ -21,7 +19,6 @@ Inv-loop keys size front target₀ i₀ target i = (i ≤ length keys) × (lengt
 abbrev μ-loop : tie.MeasureT-loop
 μ-loop keys size front target₀ i₀ target i = length keys - i
 
--- src/merge.rt:162:5
 loop-holds : tie.Need-loop-holds Inv-loop μ-loop
 loop-holds c = let s = c .before .before in (omega arith, refl, good-of (s .args .size) (s .args .target .now) (λ i. c .slice-known .given i .fits) (s .pre .0), refl)
 
@@ -29,15 +26,12 @@ loop-holds c = let s = c .before .before in (omega arith, refl, good-of (s .args
 more : (c : tie.In-loop Inv-loop μ-loop) → c .before .loop .i < length (c .before .before .before .before .args .keys .now)
 more c = omega arith
 
--- src/merge.rt:163:19
 mul-key : tie.Need-mul-key Inv-loop μ-loop
 mul-key c = search needs
 
--- src/merge.rt:163:19
 shared-slice-read-key : tie.Need-shared-slice-read-key Inv-loop μ-loop
 shared-slice-read-key c = omega arith
 
--- src/merge.rt:164:36
 insert-at-requires : tie.Need-insert-at-requires Inv-loop μ-loop
 insert-at-requires c κs =
     let i = c .before .before in
@@ -52,15 +46,12 @@ insert-at-requires c κs =
 enum-told : tie.Need-enum-told Inv-loop μ-loop
 enum-told c = search needs
 
--- src/merge.rt:165:13
 enum-told-2 : tie.Need-enum-told-2 Inv-loop μ-loop
 enum-told-2 c = search needs
 
--- src/merge.rt:165:13
 same-length : tie.Need-same-length Inv-loop μ-loop
 same-length c = search needs
 
--- src/merge.rt:165:13
 returns : tie.Need-returns Inv-loop μ-loop
 returns c =
     let i = c .before .before .before .before .before .before .before in
@@ -70,15 +61,12 @@ returns c =
     ∙ key-full (s .args .size) (s .args .front .0) (l .i) (s .args .keys .now) (l .target) (s .pre .1) (l .inv .2) (s .pre .2) (more i)
     (c .before .before .before .before .insert-at .ensures) (c .enum-told2 .given .1))
 
--- src/merge.rt:167:9
 add-i : tie.Need-add-i Inv-loop μ-loop
 add-i c = omega arith
 
--- src/merge.rt:162:5
 loop-less : tie.Need-loop-less Inv-loop μ-loop
 loop-less c = omega arith
 
--- src/merge.rt:162:5
 loop-again : tie.Need-loop-again Inv-loop μ-loop
 loop-again c =
     let i = c .before .before .before .before .before .before .before in
@@ -89,7 +77,6 @@ loop-again c =
     (c .before .before .before .before .insert-at .ensures) (c .enum-told .given .1) in
     (omega arith, c .before .before .before .before .insert-at .kept .0 ∙ l .inv .1, t .0, l .inv .3 ∙ t .1)
 
--- src/merge.rt:157:1
 same-length-2 : tie.Need-same-length-2 Inv-loop μ-loop
 same-length-2 c = search needs
 
@@ -97,7 +84,6 @@ same-length-2 c = search needs
 done : (c : tie.After-loop Inv-loop μ-loop) → c .before .loop .i ≡ length (c .before .before .before .before .args .keys .now)
 done c = omega arith
 
--- src/merge.rt:157:1
 returns-2 : tie.Need-returns-2 Inv-loop μ-loop
 unfolding insertAll
 returns-2 c =

@@ -1,19 +1,15 @@
-use mathlib.Core.Path.{_≡_, refl, sym, _∙_}
+-- Merge is the machine's at the size that the three images share, or the refusal of their lengths.
+use mathlib.Core.Path.{_≡_, refl, sym}
+use mathlib.Core.Option.{some}
 use lib.ListN.{length}
 use borrow.Author.Tests.{eq-eqb, ne-eqb}
-use mathlib.Core.Option.{some}
 use Rattle.machine.specs.Images.{sizeOf}
 use Rattle.machine.specs.Calls.{mergeOf}
 use Rattle.breadcrumb.proofs.StepLaws.{size-some, size-none}
 use borrow.Author.Needs.{needs}
 use Rattle.breadcrumb.proofs.merge.merge.Statement.{statement}
 use Rattle.breadcrumb.proofs.merge.merge.Tie as tie
-use Rattle.breadcrumb.proofs.merge.merge.Reads as reads
-use Rattle.breadcrumb.proofs.merge.merge.Lts as lts
-use Rattle.breadcrumb.proofs.image.size_of.Reads as size-of-reads
-use Rattle.breadcrumb.proofs.merge.merge_sized.Reads as merge-sized-reads
 
--- the three sizes
 abbrev start : tie.After-size → tie.Start
 start c = c .before .before .before .before .before .before
 
@@ -29,38 +25,30 @@ target-size c =
     let a = start (c .before .before .before .before .before .before .before .before) .args in
     size-some (sizeOf (length (a .target .now))) (c .before .before .size-of3 .ensures) (c .into .given .1)
 
--- src/merge.rt:35:31
 size-of-requires : tie.Need-size-of-requires
 size-of-requires c κs = search needs
 
--- src/merge.rt:35:23
 enum-known-size : tie.Need-enum-known-size
 enum-known-size c = search needs
 
--- src/merge.rt:36:30
 enum-told : tie.Need-enum-told
 enum-told c = search needs
 
--- src/merge.rt:36:9
 returns : tie.Need-returns
 unfolding mergeOf
 returns c =
     let a = c .before .before .before .before .before .before .args in
     rw (size-none (sizeOf (length (a .first .now))) (c .before .before .size-of .ensures) (c .enum-told .given .1)) record { answer = refl; bytes = refl }
 
--- src/merge.rt:38:32
 size-of-requires-2 : tie.Need-size-of-requires-2
 size-of-requires-2 c κs = search needs
 
--- src/merge.rt:38:23
 enum-known-other : tie.Need-enum-known-other
 enum-known-other c = search needs
 
--- src/merge.rt:39:30
 enum-told-2 : tie.Need-enum-told-2
 enum-told-2 c = search needs
 
--- src/merge.rt:39:9
 returns-2 : tie.Need-returns-2
 unfolding mergeOf
 returns-2 c =
@@ -70,19 +58,15 @@ returns-2 c =
       size-none (sizeOf (length (a .second .now))) (c .before .before .size-of2 .ensures) (c .enum-told2 .given .1),
     ) record { answer = refl; bytes = refl }
 
--- src/merge.rt:41:31
 size-of-requires-3 : tie.Need-size-of-requires-3
 size-of-requires-3 c κs = search needs
 
--- src/merge.rt:41:23
 enum-known-into : tie.Need-enum-known-into
 enum-known-into c = search needs
 
--- src/merge.rt:42:30
 enum-told-3 : tie.Need-enum-told-3
 enum-told-3 c = search needs
 
--- src/merge.rt:42:9
 returns-3 : tie.Need-returns-3
 unfolding mergeOf
 returns-3 c =
@@ -94,7 +78,6 @@ returns-3 c =
       size-none (sizeOf (length (a .target .now))) (c .before .before .size-of3 .ensures) (c .enum-told3 .given .1),
     ) record { answer = refl; bytes = refl }
 
--- src/merge.rt:45:9
 returns-4 : tie.Need-returns-4
 unfolding mergeOf
 returns-4 c =
@@ -103,7 +86,6 @@ returns-4 c =
     let f = o .before .before .before .before in
     rw (first-size f, second-size o, target-size i, ne-eqb (f .size .given .0 .0) (o .other .given .0 .0) (c .if1 .taken)) record { answer = refl; bytes = refl }
 
--- src/merge.rt:48:9
 returns-5 : tie.Need-returns-5
 unfolding mergeOf
 returns-5 c =
@@ -118,18 +100,15 @@ returns-5 c =
       ne-eqb (f .size .given .0 .0) (i .into .given .0 .0) (c .if2 .taken),
     ) record { answer = refl; bytes = refl }
 
--- src/merge.rt:50:5
 merge-sized-requires : tie.Need-merge-sized-requires
 merge-sized-requires c κs =
     let i = c .before .before .before .before in
     let o = i .before .before .before .before in
     (first-size (o .before .before .before .before), rw (sym (c .before .before .if1 .left)) at (second-size o), rw (sym (c .before .if2 .left)) at (target-size i))
 
--- src/merge.rt:32:1
 same-length : tie.Need-same-length
 same-length c = search needs
 
--- src/merge.rt:32:1
 returns-6 : tie.Need-returns-6
 unfolding mergeOf
 returns-6 c =

@@ -1,7 +1,7 @@
+-- The target is fresh before the first front bucket, and where it was full on the way.
 use mathlib.Core.Path.{_≡_, refl, sym, _∙_}
 use lib.ListN.{length}
 use Rattle.crumbmap.specs.Layouts.{layout1, fronts}
-use Rattle.machine.specs.Results.{refused}
 use Rattle.machine.specs.Images.{emptyImage}
 use Rattle.machine.specs.Merges.{mergeFrom}
 use Rattle.breadcrumb.specs.Passes.{SizedAs, reached}
@@ -9,12 +9,7 @@ use Rattle.breadcrumb.proofs.MergeSteps.{fresh-sized, reached-all, reac
 use borrow.Author.Needs.{needs}
 use Rattle.breadcrumb.proofs.merge.merge_checked.Statement.{statement}
 use Rattle.breadcrumb.proofs.merge.merge_checked.Tie as tie
-use Rattle.breadcrumb.proofs.merge.merge_checked.Reads as reads
-use Rattle.breadcrumb.proofs.merge.merge_checked.Lts as lts
-use Rattle.breadcrumb.proofs.fresh.fresh.Reads as fresh-reads
-use Rattle.breadcrumb.proofs.merge.merge_fronts.Reads as merge-fronts-reads
 
--- src/merge.rt:73:5
 fresh-requires : tie.Need-fresh-requires
 fresh-requires c κs = search needs
 
@@ -32,29 +27,23 @@ filled : (c : tie.After-merge-fronts) → let a : _ = start c .args in
     ≡ mergeFrom layout1 (a .size) (fronts (a .size)) 0 (a .first .now) (a .second .now) (emptyImage layout1 (a .size))
 filled c = rw (emptied (c .before .before .before .before)) at (c .merge-fronts .ensures)
 
--- src/merge.rt:74:8
 merge-fronts-requires : tie.Need-merge-fronts-requires
 merge-fronts-requires c κs = let s = c .before .before .before .before .before .before .before .before in (s .pre .0, s .pre .1, emptied (c .before .before .before))
 
--- src/merge.rt:75:9
 same-length : tie.Need-same-length
 same-length c = search needs
 
--- src/merge.rt:75:9
 returns : tie.Need-returns
 returns c =
     let d = c .before .before .before in
     rw (reached-all (d .merge-fronts .result) (d .merge-fronts .last .1 .1 .1 .0) (filled d) (c .if1 .taken)) record { answer = refl; bytes = refl }
 
--- src/merge.rt:77:5
 give-up-requires : tie.Need-give-up-requires
 give-up-requires c κs = search needs
 
--- src/merge.rt:68:1
 same-length-2 : tie.Need-same-length-2
 same-length-2 c = search needs
 
--- src/merge.rt:68:1
 returns-2 : tie.Need-returns-2
 returns-2 c =
     let i = c .before .before .before .before in

@@ -1,8 +1,7 @@
+-- One front bucket: the bytes of one of the two serve, or the members of the first and then of the second are put in one by one.
 use mathlib.Core.Path.{_≡_, sym, _∙_}
 use mathlib.Core.Bool.{true}
-use Prim.Native.Nat.{ℕ, _<_}
 use native.Mathlib.Omega.{arith}
-use lib.ListN.{drop}
 use Rattle.crumbmap.specs.Layouts.{layout1}
 use Rattle.minifilter.proofs.FindLaws.{fits1}
 use Rattle.machine.specs.Merges.{insertAll}
@@ -14,13 +13,7 @@ use Rattle.breadcrumb.proofs.MergeSteps.{checked-of, good-of, read-of, 
 use borrow.Author.Needs.{needs}
 use Rattle.breadcrumb.proofs.merge.merge_front.Statement.{statement}
 use Rattle.breadcrumb.proofs.merge.merge_front.Tie as tie
-use Rattle.breadcrumb.proofs.merge.merge_front.Reads as reads
-use Rattle.breadcrumb.proofs.merge.merge_front.Lts as lts
-use Rattle.breadcrumb.proofs.image.count_front_at.Reads as count-front-at-reads
-use Rattle.breadcrumb.proofs.merge.add_from.Reads as add-from-reads
-use Rattle.breadcrumb.proofs.merge.take_over.Reads as take-over-reads
 
--- the sources and the target are good, and their buckets were read
 abbrev start : tie.After-slice-known → tie.Start
 start c = c .before .before .before
 
@@ -52,54 +45,42 @@ added-good c e =
     (members-range (a .size) (a .front .0) (a .first .now) (members-read (a .size) (a .front .0) (a .first .now) (first-good p) (first-read p) (s .pre .3)))
     (reached-all (c .add-from .result) (c .add-from .last .1 .1 .1 .1 .0) (c .add-from .ensures) e) .0
 
--- src/merge.rt:105:8
 count-front-at-requires : tie.Need-count-front-at-requires
 count-front-at-requires c κs = first-read c .front _ (start c .pre .3)
 
--- src/merge.rt:106:9
 take-over-requires : tie.Need-take-over-requires
 take-over-requires c κs = search needs
 
--- src/merge.rt:106:9
 same-length : tie.Need-same-length
 same-length c = search needs
 
--- src/merge.rt:106:9
 returns : tie.Need-returns
 returns c = search needs
 
--- src/merge.rt:108:8
 count-front-at-requires-2 : tie.Need-count-front-at-requires-2
 count-front-at-requires-2 c κs = let p = c .before .before in second-read p .front _ (start p .pre .3)
 
--- src/merge.rt:109:9
 take-over-requires-2 : tie.Need-take-over-requires-2
 take-over-requires-2 c κs = search needs
 
--- src/merge.rt:109:9
 same-length-2 : tie.Need-same-length-2
 same-length-2 c = search needs
 
--- src/merge.rt:109:9
 returns-2 : tie.Need-returns-2
 returns-2 c = search needs
 
--- src/merge.rt:111:8
 add-from-requires : tie.Need-add-from-requires
 add-from-requires c κs = search needs
 
--- src/merge.rt:112:9
 add-from-requires-2 : tie.Need-add-from-requires-2
 add-from-requires-2 c κs =
     let t = c .before in
     let s = start (part (t .before .before .before)) in
     (s .pre .1, checked-of (added-good (t .before .before .before) (t .if3 .taken)), s .pre .3, omega arith)
 
--- src/merge.rt:112:9
 same-length-3 : tie.Need-same-length-3
 same-length-3 c = search needs
 
--- src/merge.rt:112:9
 returns-3 : tie.Need-returns-3
 unfolding bothInserted
 returns-3 c =
@@ -110,11 +91,9 @@ returns-3 c =
     ∙ sym (then-on (d .add-from .result) (d .add-from .last .1 .1 .1 .1 .0)
     (insertAll layout1 (a .size) (a .front .0) (membersIn (a .size) (a .front .0) (a .second .now))) (d .add-from .ensures) (t .if3 .taken))
 
--- src/merge.rt:99:1
 same-length-4 : tie.Need-same-length-4
 same-length-4 c = search needs
 
--- src/merge.rt:99:1
 returns-4 : tie.Need-returns-4
 unfolding bothInserted
 returns-4 c =

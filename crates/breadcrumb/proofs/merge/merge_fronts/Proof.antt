@@ -1,6 +1,7 @@
-use borrow.Author.Needs.{needs}
+-- The loop's invariant: the target is good, its front buckets from f on hold nothing, and what is left of the merge is that from f on.
+-- The measure is what is left of the front buckets.
 use mathlib.Core.Path.{_≡_, refl, sym, _∙_}
-use Prim.Native.Nat.{ℕ, _+_, _*_, _-_, _≤_, _<_}
+use Prim.Native.Nat.{ℕ, _+_, _-_, _≤_, _<_}
 use native.Mathlib.Nat.{sub-zero}
 use native.Mathlib.Omega.{arith}
 use lib.ListN.{length, getD}
@@ -18,9 +19,6 @@ use Rattle.machine.proofs.MergeLaws.{empty-good, empty-total}
 use Rattle.breadcrumb.proofs.MergeSteps.{checked-of, good-of, read-of, members-read, Untouched, untouched-front, both-good, reached-all, then-on, then-full, merge-on, merge-end}
 use Rattle.breadcrumb.proofs.merge.merge_fronts.Statement.{statement}
 use Rattle.breadcrumb.proofs.merge.merge_fronts.Tie as tie
-use Rattle.breadcrumb.proofs.merge.merge_fronts.Reads as reads
-use Rattle.breadcrumb.proofs.merge.merge_fronts.Lts as lts
-use Rattle.breadcrumb.proofs.merge.merge_front.Reads as merge-front-reads
 
 abbrev Inv-loop : tie.InvT-loop
 Inv-loop first second size target₀ end f₀ target f =
@@ -68,11 +66,9 @@ on c =
     merge-on (a .size) (fronts (a .size)) (l .f) (a .first .now) (a .second .now) (l .target) (inside c)
     (members-at (a .size) (l .f) (a .first .now) (first-members c)) (members-at (a .size) (l .f) (a .second .now) (second-members c))
 
--- src/merge.rt:87:15
 mul-end : tie.Need-mul-end Inv-loop μ-loop
 mul-end c = let s = c .before .before .before in omega (arith, sizeOf-some (length (s .args .first .now)) (s .args .size) (s .pre .0 .size) .2)
 
--- src/merge.rt:89:5
 loop-holds : tie.Need-loop-holds Inv-loop μ-loop
 loop-holds c =
     let s = c .before .before .before in
@@ -85,7 +81,6 @@ loop-holds c =
       rw sub-zero,
     )
 
--- src/merge.rt:90:13
 merge-front-requires : tie.Need-merge-front-requires Inv-loop μ-loop
 merge-front-requires c κs =
     let i = c .before in
@@ -98,11 +93,9 @@ merge-front-requires c κs =
       untouched-front (s .args .size) (l .f) (l .target) (l .inv .2) (read-of (s .args .size) (l .target) (l .inv .4) (l .inv .2)) (inside i) (l .inv .3),
     )
 
--- src/merge.rt:91:13
 same-length : tie.Need-same-length Inv-loop μ-loop
 same-length c = c .before .before .before .merge-front .kept .1 .1 .1 .1 .0 ∙ c .before .before .before .before .before .before .loop .inv .1
 
--- src/merge.rt:91:13
 returns : tie.Need-returns Inv-loop μ-loop
 returns c =
     let d = c .before .before .before in
@@ -112,15 +105,12 @@ returns c =
     sym (l .inv .5 ∙ on i ∙ then-full (d .merge-front .result) (d .merge-front .last .1 .1 .1 .1 .0)
     (mergeFrom layout1 (a .size) (fronts (a .size) - (l .f + 1)) (l .f + 1) (a .first .now) (a .second .now)) (d .merge-front .ensures) (not-true _ (c .if1 .taken)))
 
--- src/merge.rt:93:9
 add-f : tie.Need-add-f Inv-loop μ-loop
 add-f c = let s = c .before .before .before .before .before .before .before .before .before .before in omega (arith, sizeOf-some (length (s .args .first .now)) (s .args .size) (s .pre .0 .size) .2)
 
--- src/merge.rt:89:5
 loop-less : tie.Need-loop-less Inv-loop μ-loop
 loop-less c = omega arith
 
--- src/merge.rt:89:5
 loop-again : tie.Need-loop-again Inv-loop μ-loop
 loop-again c =
     let d = c .before .before .before in
@@ -141,11 +131,9 @@ loop-again c =
           (mergeFrom layout1 (a .size) (fronts (a .size) - (l .f + 1)) (l .f + 1) (a .first .now) (a .second .now)) (d .merge-front .ensures) e,
     )
 
--- src/merge.rt:82:1
 same-length-2 : tie.Need-same-length-2 Inv-loop μ-loop
 same-length-2 c = c .before .loop .inv .1
 
--- src/merge.rt:82:1
 returns-2 : tie.Need-returns-2 Inv-loop μ-loop
 unfolding fronts
 returns-2 c =

@@ -1,3 +1,4 @@
+-- A source that check refuses ends the merge with that refusal; two that pass are merged.
 use mathlib.Core.Path.{_≡_}
 use Rattle.crumbmap.specs.Layouts.{layout1}
 use Rattle.machine.specs.Results.{accepted}
@@ -7,12 +8,7 @@ use Rattle.breadcrumb.proofs.MergeSteps.{image-of, check-refuses, check
 use borrow.Author.Needs.{needs}
 use Rattle.breadcrumb.proofs.merge.merge_sized.Statement.{statement}
 use Rattle.breadcrumb.proofs.merge.merge_sized.Tie as tie
-use Rattle.breadcrumb.proofs.merge.merge_sized.Reads as reads
-use Rattle.breadcrumb.proofs.merge.merge_sized.Lts as lts
-use Rattle.breadcrumb.proofs.check.check_sized.Reads as check-sized-reads
-use Rattle.breadcrumb.proofs.merge.merge_checked.Reads as merge-checked-reads
 
--- both sources pass
 abbrev start : tie.After-enum-told → tie.Start
 start c = c .before .before .before .before .before .before
 
@@ -24,45 +20,36 @@ second-passes c =
     let a = start (c .before .before .before) .args in
     check-passes (a .size) (a .second .now) (c .before .before .check-sized2 .ensures) (c .enum-told2 .given .1)
 
--- src/merge.rt:58:11
 check-sized-requires : tie.Need-check-sized-requires
 check-sized-requires c κs = let s = c .before .before .before in image-of (s .args .size) (s .args .first .now) (s .pre .0)
 
--- src/merge.rt:59:23
 enum-known-why : tie.Need-enum-known-why
 enum-known-why c = search needs
 
--- src/merge.rt:60:33
 enum-told : tie.Need-enum-told
 enum-told c = search needs
 
--- src/merge.rt:60:33
 check-sized-requires-2 : tie.Need-check-sized-requires-2
 check-sized-requires-2 c κs = let s = c .before .before .before .before .before .before in image-of (s .args .size) (s .args .second .now) (s .pre .1)
 
--- src/merge.rt:61:27
 enum-known-why-2 : tie.Need-enum-known-why-2
 enum-known-why-2 c = search needs
 
--- src/merge.rt:62:66
 enum-told-2 : tie.Need-enum-told-2
 enum-told-2 c = search needs
 
--- src/merge.rt:62:31
 merge-checked-requires : tie.Need-merge-checked-requires
 merge-checked-requires c κs =
     let e = c .before in
     let s = start (e .before .before .before) in
     (record { size = s .pre .0; passed = first-passes (e .before .before .before) }, record { size = s .pre .1; passed = second-passes e }, s .pre .2)
 
--- src/merge.rt:54:1
 returns : tie.Need-returns
 unfolding mergeSized
 returns c =
     let a = c .before .before .before .before .before .before .before .args in
     check-refuses (a .size) (a .first .now) (a .target .now) (c .before .why .given .0 .0) _ (rw (c .before .why .given .1) at (c .before .before .before .check-sized .ensures))
 
--- src/merge.rt:54:1
 returns-2 : tie.Need-returns-2
 unfolding mergeSized
 returns-2 c =
@@ -71,11 +58,9 @@ returns-2 c =
     rw (first-passes e)
     (check-refuses (a .size) (a .second .now) (a .target .now) (c .before .why2 .given .0 .0) _ (rw (c .before .why2 .given .1) at (c .before .before .before .check-sized2 .ensures)))
 
--- src/merge.rt:54:1
 same-length : tie.Need-same-length
 same-length c = search needs
 
--- src/merge.rt:54:1
 returns-3 : tie.Need-returns-3
 unfolding mergeSized
 returns-3 c = let e = c .before .before .before .before in rw (first-passes (e .before .before .before), second-passes e) (c .before .before .merge-checked .ensures)

@@ -1,7 +1,6 @@
+-- The bytes of the one front bucket that has members, and those behind it put in one by one, are what putting in all of them gives.
 use mathlib.Core.Path.{_≡_, sym, _∙_}
 use mathlib.Core.Bool.{true}
-use Prim.Native.Nat.{ℕ, _<_}
-use lib.ListN.{length, getD}
 use Rattle.crumbmap.specs.Layouts.{layout1}
 use Rattle.minifilter.proofs.FindLaws.{fits1}
 use Rattle.machine.specs.Results.{andThen}
@@ -16,13 +15,7 @@ use Rattle.breadcrumb.proofs.MergeSteps.{checked-of, good-of, read-of, 
 use borrow.Author.Needs.{needs}
 use Rattle.breadcrumb.proofs.merge.take_over.Statement.{statement}
 use Rattle.breadcrumb.proofs.merge.take_over.Tie as tie
-use Rattle.breadcrumb.proofs.merge.take_over.Reads as reads
-use Rattle.breadcrumb.proofs.merge.take_over.Lts as lts
-use Rattle.breadcrumb.proofs.image.whichever.Reads as whichever-reads
-use Rattle.breadcrumb.proofs.image.write_front_at.Reads as write-front-at-reads
-use Rattle.breadcrumb.proofs.merge.add_behind.Reads as add-behind-reads
 
--- the sources and the target are good, and their buckets were read
 abbrev start : tie.After-slice-known → tie.Start
 start c = c .before .before .before
 
@@ -83,36 +76,30 @@ added-good c e =
     (behind-range (a .size) (a .front .0) (a .first .now) (first-good p) (first-read p) (s .pre .3))
     (reached-all (c .add-behind .result) (c .add-behind .last .1 .1 .1 .0) (added c) e) .0
 
--- src/merge.rt:125:35
 whichever-requires : tie.Need-whichever-requires
 whichever-requires c κs = let p = c .before in (first-read p .front _ (start p .pre .3), second-read p .front _ (start p .pre .3))
 
--- src/merge.rt:125:5
 write-front-at-requires : tie.Need-write-front-at-requires
 write-front-at-requires c κs =
     let p = c .before .before in
     let s = start p in
     (rw (good-length layout1 (s .args .size) (s .args .target .now) (target-good p)) (front-inside (s .args .size) (s .args .front .0) (s .pre .3)), c .whichever .ensures .1)
 
--- src/merge.rt:126:8
 add-behind-requires : tie.Need-add-behind-requires
 add-behind-requires c κs =
     let w = c .before .before .before in
     let s = start (w .before .before .before) in
     (s .pre .0, checked-of (now-good w), s .pre .3)
 
--- src/merge.rt:127:9
 add-behind-requires-2 : tie.Need-add-behind-requires-2
 add-behind-requires-2 c κs =
     let t = c .before in
     let s = start (part (t .before .before .before)) in
     (s .pre .1, checked-of (added-good (t .before .before .before) (t .if1 .taken)), s .pre .3)
 
--- src/merge.rt:127:9
 same-length : tie.Need-same-length
 same-length c = search needs
 
--- src/merge.rt:127:9
 returns : tie.Need-returns
 returns c =
     let t = c .before .before .before .before in
@@ -123,11 +110,9 @@ returns c =
     (insertAll layout1 (a .size) (a .front .0) (behindIn (a .size) (a .front .0) (a .second .now))) (added d) (t .if1 .taken))
     ∙ sym (taken (part d) .1)
 
--- src/merge.rt:118:1
 same-length-2 : tie.Need-same-length-2
 same-length-2 c = search needs
 
--- src/merge.rt:118:1
 returns-2 : tie.Need-returns-2
 returns-2 c =
     let d = c .before .before .before in

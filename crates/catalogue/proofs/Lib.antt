@@ -1,0 +1,2 @@
+-- The contracts and the theorem joined: demand 3 of the calls.
+pub mod Whole

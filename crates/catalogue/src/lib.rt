@@ -1,0 +1,1 @@
+// The catalogue as a whole: the calls' contracts and the theorem about every history together; no code.
