@@ -28,8 +28,7 @@ use Rattle.minifilter.proofs.FindLaws.{held}
 use Rattle.machine.specs.Results.{accepted, refused}
 use Rattle.machine.specs.Images.{bucketAt, frontAt, backAt}
 use Rattle.machine.specs.Checks.{unsoundFront, unsoundBack, inTurn, homeInTurn, allInTurn, early}
-use Rattle.breadcrumb.specs.Steps.{inFront, inBack, BackIn, FrontRead, BackRead}
-use Rattle.breadcrumb.specs.Listings.{ImageIn}
+use Rattle.breadcrumb.specs.Steps.{inFront, inBack, BackIn, FrontRead, BackRead, Whole}
 use Rattle.breadcrumb.specs.Passes.{faultOf, AllRead}
 use Rattle.breadcrumb.specs.declared.Fault.{Fault}
 use Rattle.breadcrumb.specs.declared.Fault.the-variants as F
@@ -131,7 +130,7 @@ home-some none e f = let z : _≡_ {A = ℕ} 0 1 = cc in absurd (omega arith)
 home-some (some j) e f = cc
 
 -- every bucket of a whole image was read, where neither pass found an unsound one
-module _ (B : ℕ) (img : List ℕ) (whole : ImageIn B img) (bytes : (i : ℕ) → getD img i 0 < 256) where
+module _ (B : ℕ) (img : List ℕ) (whole : Whole B img) (bytes : (i : ℕ) → getD img i 0 < 256) where
   pub front-was-read : (f : ℕ) {xs : List ℕ} → f < fronts B → frontAt layout1 f img ≡ accepted xs → FrontRead f img
   unfolding frontAt
   front-was-read f {xs} h e =

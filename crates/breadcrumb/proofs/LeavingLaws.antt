@@ -21,9 +21,10 @@ use Rattle.minifilter.specs.Readings.{firstOf}
 use Rattle.minifilter.specs.declared.Carried.{Carried}
 use Rattle.minifilter.specs.declared.Carried.the-variants as K
 use Rattle.machine.specs.Bags.{addedAll, has, fromFirst}
-use Rattle.breadcrumb.specs.Steps.{inBack, inFirst, inSecond, inBoth, BothRead, BothHold, firstly, Leaves, Least, LeastSays, Copy, CopySays}
+use Rattle.breadcrumb.specs.Steps.{inBack, inFirst, inSecond, inBoth, BothRead, BothHold, firstly, Leaves, Least, LeastSays, Copy, CopySays, Stands}
 use Rattle.breadcrumb.specs.declared.Leaving.{Leaving}
 use Rattle.breadcrumb.specs.declared.Leaving.the-variants as W
+use Rattle.breadcrumb.proofs.StepLaws.{chosen-way}
 use Rattle.machine.proofs.BagLaws.{copies-carrying, ascending-carrying, below-carrying, copies-addedAll, ascending-addedAll}
 
 -- ---- the choice
@@ -178,8 +179,9 @@ module _ {B f : ℕ} {img : List ℕ} (b : BothRead B f img) where
         least-of t v (from-either v xs ys _ _ (p .0) c ∙ l) (cond-both t v xs ys (p .0) c) (p .1) (λ z d. rw e (q .1 z d))
 
 -- what leaves stands where its choice leads
-pub leaves-way : {t : Bool} {B f v : ℕ} {w : Overflow} {img : List ℕ} → Leads t B f w → Leaves t B f v img → 0 < copies (v * 16 + w .crumb) (inBack B (w .bucket .0) img)
-leaves-way leads l = rw (leads .bucket, leads .crumb) (l .there)
+pub stands : {t : Bool} {B f v : ℕ} {w : Overflow} {img : List ℕ} → BothRead B f img → Leads t B f w → Leaves t B f v img → Stands B w v img
+stands {t} b leads l =
+    record { back = chosen-way b t leads; there = rw (leads .bucket, leads .crumb) (l .there); crumb = leads .small; key = l .key }
 
 -- the copies of x and the first key that the code found are those of First(f) and of Second(f)
 module _ (img : List ℕ) {B f : ℕ} {w : Overflow} where

@@ -180,4 +180,4 @@ module _ (B f : ℕ) (img : List ℕ) {r : Held} (said : HeldSays B f img r) whe
 -- a front bucket of an image has a number that every fingerprint allows
 pub front-small : {B f : ℕ} {img : List ℕ} → FrontIn B f img → f < fronts 65536
 unfolding fronts
-front-small i = omega (arith, i .front, i .small)
+front-small i = omega (arith, i .front, i .whole .small)

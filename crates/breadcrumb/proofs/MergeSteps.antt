@@ -21,7 +21,8 @@ use Rattle.crumbmap.specs.CrumbMap.{firstBucket, secondBucket}
 use Rattle.crumbmap.proofs.CrumbMapLaws.{bucketOf-lt}
 use Rattle.minifilter.specs.Buckets.{Fits64, frontBytes, FrontList}
 use Rattle.minifilter.proofs.BucketLaws.{length-frontBytes}
-use Rattle.minifilter.proofs.FindLaws.{fits1, front-bytes}
+use Rattle.minifilter.proofs.BucketLaws.{fits1}
+use Rattle.minifilter.proofs.FindLaws.{front-bytes}
 use Rattle.machine.specs.Results.{Result, accepted, refused, andThen}
 use Rattle.machine.specs.Images.{lengthOf, bucketAt, put, frontAt, putFront, emptyImage}
 use Rattle.machine.specs.Bags.{addedAll}
@@ -36,8 +37,8 @@ use Rattle.breadcrumb.specs.declared.Done.{Done}
 use Rattle.breadcrumb.specs.declared.Done.the-variants as D
 use Rattle.breadcrumb.specs.declared.Changed.{Changed}
 use Rattle.breadcrumb.specs.declared.Changed.the-variants as C
-use Rattle.breadcrumb.specs.Steps.{inFront, FrontRead}
-use Rattle.breadcrumb.specs.Listings.{Listed, ImageIn, overflowIn, behindIn, membersIn, MembersRead}
+use Rattle.breadcrumb.specs.Steps.{inFront, FrontRead, Whole}
+use Rattle.breadcrumb.specs.Listings.{Listed, overflowIn, behindIn, membersIn, MembersRead}
 use Rattle.breadcrumb.specs.Passes.{AllRead, SizedAs, Checked, reached, served, bothInserted}
 use Rattle.machine.proofs.BagLaws.{copies-addedAll, ascending-addedAll}
 use Rattle.machine.proofs.ImageLaws.{front-inside, sizeOf-some}
@@ -156,7 +157,7 @@ module _ (L : Layout) (fits : Fits64 L) (B f : ℕ) (h : f < fronts B) where
 pub checked-of : {B : ℕ} {img : List ℕ} → Good layout1 B img → Checked B img
 checked-of {B} {img} good = record { size = good .size; passed = check-good layout1 B img good }
 
-pub image-of : (B : ℕ) (img : List ℕ) → SizedAs B img → ImageIn B img
+pub image-of : (B : ℕ) (img : List ℕ) → SizedAs B img → Whole B img
 image-of B img e = let s = sizeOf-some (length img) B e in record { long = s .0; small = s .2 }
 
 -- what a fresh makes of it
@@ -181,7 +182,7 @@ module _ (B : ℕ) (img : List ℕ) (bytes : (i : ℕ) → getD img i 0 < 256) w
 module _ (B f : ℕ) (img : List ℕ) (good : Good layout1 B img) (all : AllRead B img) (h : f < fronts B) where
   pub members-read : MembersRead B f img
   members-read = record {
-    within = record { long = all .whole .long; small = all .whole .small; front = h };
+    within = record { whole = all .whole; front = h };
     front = all .front f h;
     behind = λ _. record { first = all .back (firstBucket f) (bucketOf-lt true B f h); second = all .back (secondBucket B f) (bucketOf-lt false B f h) };
   }

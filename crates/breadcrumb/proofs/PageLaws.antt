@@ -17,7 +17,8 @@ use Rattle.machine.specs.Results.{Result, accepted, refused}
 use Rattle.machine.specs.Machine.{membersAt}
 use Rattle.machine.specs.Pages.{Run, stopped, prepended, runFrom, pageFrom}
 use Rattle.breadcrumb.specs.Answers.{Writes}
-use Rattle.breadcrumb.specs.Listings.{Listed, membersIn, MembersRead, ImageIn, entriesIn, Ran, ReachSays}
+use Rattle.breadcrumb.specs.Steps.{Whole}
+use Rattle.breadcrumb.specs.Listings.{Listed, membersIn, MembersRead, entriesIn, Ran, ReachSays}
 use Rattle.breadcrumb.specs.declared.Reach.{Reach}
 use Rattle.breadcrumb.specs.declared.Reach.the-variants as N
 use Rattle.breadcrumb.specs.declared.Refusal.the-variants.{Unsound, NoRoom}
@@ -86,7 +87,7 @@ module _ (B s room : ℕ) (img : List ℕ) where
       }
 
   module _ (f left : ℕ) (m : Measured B s room img f left) where
-    stops : ImageIn B img → runFrom layout1 B (fronts B - f) f left img ≡ stopped f → Ran B s room img f
+    stops : Whole B img → runFrom layout1 B (fronts B - f) f left img ≡ stopped f → Ran B s room img f
     stops i e = record {
       image = i;
       from = m .from;
@@ -96,7 +97,7 @@ module _ (B s room : ℕ) (img : List ℕ) where
       runs = m .rest ∙ rw (e, append-nil);
     }
 
-    pub measured-end : ImageIn B img → fronts B ≤ f → Ran B s room img f
+    pub measured-end : Whole B img → fronts B ≤ f → Ran B s room img f
     unfolding runFrom
     measured-end i h = let e : fronts B - f ≡ 0 = omega arith in stops i (rw e)
 
@@ -104,7 +105,7 @@ module _ (B s room : ℕ) (img : List ℕ) where
       more : fronts B - f ≡ suc (fronts B - suc f)
       more = omega arith
 
-      pub measured-stop : ImageIn B img → MembersRead B f img → left < length (membersIn B f img) → Ran B s room img f
+      pub measured-stop : Whole B img → MembersRead B f img → left < length (membersIn B f img) → Ran B s room img f
       measured-stop i r l = stops i (rw more (run-stop B img (fronts B - suc f) f left r l))
 
       pub measured-unsound : (i : ℕ) → membersAt layout1 B f img ≡ refused 3 i → runFrom layout1 B (fronts B - s) s room img ≡ refused 3 i

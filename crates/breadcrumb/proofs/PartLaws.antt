@@ -15,11 +15,11 @@ use Rattle.crumbmap.specs.Layouts.{layout1, fronts, backyards}
 use Rattle.minifilter.specs.Buckets.{Fits64, given, valid, slotKeys, frontMembers, backMembers}
 use Rattle.minifilter.specs.Readings.{readingOf, listOf, frontList, backList, SoundFront, SoundBack}
 use Rattle.minifilter.specs.declared.Reading.{Reading}
-use Rattle.minifilter.proofs.BucketLaws.{frontMembers-list, backMembers-list, frontBytes-frontMembers}
+use Rattle.minifilter.proofs.BucketLaws.{fits1, frontMembers-list, backMembers-list, frontBytes-frontMembers}
 use Rattle.machine.specs.Images.{lengthOf, sizeOf, bucketAt, put, frontAt, backAt}
 use Rattle.breadcrumb.specs.Steps.{sizing, BackIn, FrontSays, BackSays}
 use Rattle.breadcrumb.specs.declared.Size.the-variants.{Buckets, Wrong}
-use Rattle.machine.proofs.ImageLaws.{below-bucket, length-bucketAt, sizeOf-some, sizeOf-lengthOf}
+use Rattle.machine.proofs.ImageLaws.{length-bucketAt, sizeOf-some, sizeOf-lengthOf}
 
 pub part-bucket : (i : ℕ) (img : List ℕ) → take (64 * i + 64 - 64 * i) (drop (64 * i) img) ≡ bucketAt i img
 unfolding bucketAt
@@ -40,8 +40,17 @@ size-wrong n never = go (sizeOf n) refl
 pub size-right : (n B : ℕ) → n ≡ lengthOf B → 0 < B → B ≤ 65536 → Buckets B ≡ sizing (sizeOf n)
 size-right n B e p h = rw (e, sizeOf-lengthOf B p h)
 
-pub fits : Fits64 layout1
-fits = record { minis = omega arith; slots = omega arith; front = omega arith; back = omega arith }
+-- a part of bytes is bytes
+below-part : (n m : ℕ) (l : List ℕ) → ((i : ℕ) → getD l i 0 < 256) → Below 256 (take n (drop m l))
+below-part zero m l k = tt
+below-part (suc n) zero [] k = tt
+below-part (suc n) zero (x ∷ xs) k = (k 0, below-part n zero xs (λ i. k (suc i)))
+below-part (suc n) (suc m) [] k = tt
+below-part (suc n) (suc m) (x ∷ xs) k = below-part (suc n) m xs (λ i. k (suc i))
+
+below-bucket : (i : ℕ) (img : List ℕ) → ((k : ℕ) → getD img k 0 < 256) → Below 256 (bucketAt i img)
+unfolding bucketAt
+below-bucket i img k = below-part 64 (64 * i) img k
 
 module _ (f : ℕ) (img : List ℕ) (inside : 64 * f + 64 ≤ length img) (bytes : (i : ℕ) → getD img i 0 < 256) where
   front-said : (o : Option (List ℕ)) → frontMembers layout1 (bucketAt f img) ≡ o → FrontSays f img (readingOf o)
@@ -53,8 +62,8 @@ module _ (f : ℕ) (img : List ℕ) (inside : 64 * f + 64 ≤ length img) (bytes
           inside = inside;
           accepts = rw e;
           sound = record { long = long; sound = rw e };
-          list = rw e (frontMembers-list layout1 fits (bucketAt f img) xs (below-bucket f img bytes) long e);
-          same = rw e (frontBytes-frontMembers layout1 fits (bucketAt f img) xs (below-bucket f img bytes) long e);
+          list = rw e (frontMembers-list layout1 fits1 (bucketAt f img) xs (below-bucket f img bytes) long e);
+          same = rw e (frontBytes-frontMembers layout1 fits1 (bucketAt f img) xs (below-bucket f img bytes) long e);
         },
         rw e,
       )
@@ -92,7 +101,7 @@ module _ (B j : ℕ) (img : List ℕ) (within : BackIn B j img) (bytes : (i : �
           within = within;
           accepts = rw (e, l);
           sound = record { size = B; bucket = j; long = long; sound = rw l e };
-          list = rw l (backMembers-list layout1 fits B j (bucketAt i img) ys (below-bucket i img bytes) long e);
+          list = rw l (backMembers-list layout1 fits1 B j (bucketAt i img) ys (below-bucket i img bytes) long e);
         },
         rw l,
       )

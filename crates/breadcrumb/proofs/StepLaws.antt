@@ -19,7 +19,7 @@ use Rattle.machine.specs.Results.{Result, accepted, refused, andThen}
 use Rattle.machine.specs.Images.{sized, frontAt, backAt}
 use Rattle.machine.specs.Machine.{Change, backyard}
 use Rattle.breadcrumb.specs.Answers.{Changes}
-use Rattle.breadcrumb.specs.Steps.{sizing, inFront, inBack, Locates, LocatedIn, FrontIn, Placed, BackIn, FrontRead, BackRead, FrontSays, BackSays, BothRead, BothHold, BehindSays, FrontFull, Exceeds}
+use Rattle.breadcrumb.specs.Steps.{sizing, inFront, inBack, Locates, LocatedIn, Whole, FrontIn, Placed, BackIn, FrontRead, BackRead, FrontSays, BackSays, BothRead, BothHold, BehindSays, FrontFull, Exceeds}
 use Rattle.breadcrumb.specs.declared.Changed.{Changed}
 use Rattle.breadcrumb.specs.declared.Size.{Size}
 use Rattle.breadcrumb.specs.declared.Size.the-variants.{Buckets, Wrong}
@@ -51,14 +51,14 @@ pub placed : (img : List ℕ) (k : ℕ) {r : Located} {t : Target} → LocatedIn
 placed img k {t = t} said e =
     let l : Locates (length img) k t = rw e at said in
     let s = sizeOf-some (length img) (t .size) (l .sized) in
-    record { within = record { long = s .0; small = s .2; front = l .inside }; key = l .low }
+    record { within = record { whole = record { long = s .0; small = s .2 }; front = l .inside }; key = l .low }
 
 -- its buckets lie in the image
 pub front-in : {B f : ℕ} {img : List ℕ} → FrontIn B f img → 64 * f + 64 ≤ length img
-front-in {B} {f} p = rw (p .long) (front-inside B f (p .front))
+front-in {B} {f} p = rw (p .whole .long) (front-inside B f (p .front))
 
-pub back-in : {B f j : ℕ} {img : List ℕ} → FrontIn B f img → j < backyards B → BackIn B j img
-back-in {B} {j = j} p h = record { small = p .small; bucket = h; inside = rw (p .long) (back-inside B j h) }
+pub back-in : {B j : ℕ} {img : List ℕ} → Whole B img → j < backyards B → BackIn B j img
+back-in {B} {j} p h = record { small = p .small; bucket = h; inside = rw (p .long) (back-inside B j h) }
 
 -- what a reader said, where it found members and where not
 module _ (f : ℕ) (img : List ℕ) {r : Reading} (said : FrontSays f img r) where
@@ -109,6 +109,10 @@ exceeds-absent {f} {x} {img} e = go (copies x (inFront f img)) (largest-max x (i
     go : (n : ℕ) → (0 < n → x ≤ largest (inFront f img)) → n ≡ 0
     go zero h = refl
     go (suc n) h = absurd (omega (arith, h (omega arith), e .over))
+
+-- a front bucket that was read and holds 28 or more holds 28
+pub front-full : {f n : ℕ} {img : List ℕ} → FrontRead f img × (length (inFront f img) ≡ n) → 28 ≤ n → FrontFull f img
+front-full r h = record { read = r .0; full = omega (arith, r .0 .list .room, r .1) }
 
 -- the largest of a full front bucket is a key in it
 pub largest-key : {f : ℕ} {img : List ℕ} → FrontFull f img → (0 < copies (largest (inFront f img)) (inFront f img)) × (largest (inFront f img) < keys layout1)

@@ -12,11 +12,10 @@ use Rattle.multiset.proofs.MultisetLaws.{ascending-added, ascending-removed, be
 use Rattle.crumbmap.specs.Layouts.{layout1, keys, fronts, backyards}
 use Rattle.minifilter.specs.Buckets.{frontBytes, frontMembers, FrontList}
 use Rattle.minifilter.specs.Readings.{frontList, listOf}
-use Rattle.minifilter.proofs.BucketLaws.{length-frontBytes, frontMembers-frontBytes}
+use Rattle.minifilter.proofs.BucketLaws.{fits1, length-frontBytes, frontMembers-frontBytes}
 use Rattle.machine.specs.Images.{bucketAt, put, frontAt, backAt, putFront}
 use Rattle.breadcrumb.specs.Steps.{inFront, inBack, BackIn, FrontRead, BackRead}
 use Rattle.machine.proofs.ImageLaws.{length-put, bucketAt-put, bucketAt-put-other}
-use Rattle.breadcrumb.proofs.PartLaws.{fits}
 
 pub put-put : (i : ℕ) (a b img : List ℕ) → length b ≡ 64 → 64 * i + 64 ≤ length img → put i a (put i b img) ≡ put i a img
 unfolding put
@@ -49,7 +48,7 @@ list-swapped x y xs l h k =
 -- a front bucket after it was written
 module _ (f : ℕ) (xs img : List ℕ) (inside : 64 * f + 64 ≤ length img) (list : FrontList layout1 xs) where
   long : length (frontBytes layout1 xs) ≡ 64
-  long = length-frontBytes layout1 fits xs (list .room)
+  long = length-frontBytes layout1 fits1 xs (list .room)
 
   pub length-putFront : length (putFront layout1 f xs img) ≡ length img
   unfolding putFront
@@ -61,11 +60,11 @@ module _ (f : ℕ) (xs img : List ℕ) (inside : 64 * f + 64 ≤ length img) (li
 
   pub inFront-put : inFront f (putFront layout1 f xs img) ≡ xs
   unfolding frontList
-  inFront-put = rw (at-put, frontMembers-frontBytes layout1 fits xs list)
+  inFront-put = rw (at-put, frontMembers-frontBytes layout1 fits1 xs list)
 
   pub front-put : FrontRead f (putFront layout1 f xs img)
   unfolding frontAt frontList
-  front-put = let e = frontMembers-frontBytes layout1 fits xs list in record {
+  front-put = let e = frontMembers-frontBytes layout1 fits1 xs list in record {
     inside = rw length-putFront inside;
     accepts = rw (at-put, e);
     sound = rw at-put (record { long = long; sound = rw e });

@@ -13,7 +13,7 @@ use Rattle.machine.specs.Images.{lengthOf}
 use Rattle.machine.specs.Bags.{addedAll}
 use Rattle.machine.specs.Machine.{overflow, membersAt}
 use Rattle.machine.specs.Pages.{Run, runFrom}
-use Rattle.breadcrumb.specs.Steps.{inFront, inBack, FrontIn, FrontRead, BothRead}
+use Rattle.breadcrumb.specs.Steps.{inFront, inBack, FrontIn, FrontRead, BothRead, Whole}
 use Rattle.breadcrumb.specs.declared.Held.{Held}
 use Rattle.breadcrumb.specs.declared.Held.the-variants as M
 use Rattle.breadcrumb.specs.declared.Reach.{Reach}
@@ -51,11 +51,6 @@ abbrev pub HeldSays : ℕ → ℕ → List ℕ → Held → Type 0
 HeldSays B f img (M.Members n) = MembersRead B f img × (length (membersIn B f img) ≡ n)
 HeldSays B f img (M.Unsound i) = membersAt layout1 B f img ≡ refused 3 i
 
--- an image of size B
-pub record ImageIn (B : ℕ) (img : List ℕ) : Type 0 where
-  pub long : length img ≡ lengthOf B
-  pub small : B ≤ 65536
-
 -- the entries of n buckets from s
 unfoldable pub entriesIn : ℕ → ℕ → ℕ → List ℕ → List ℕ
 entriesIn B zero s img = []
@@ -63,7 +58,7 @@ entriesIn B (suc n) s img = map (fingerprint layout1 s) (membersIn B s img) ++ e
 
 -- the run from s that fits `room` goes up to `next`, and its buckets were read
 pub record Ran (B s room : ℕ) (img : List ℕ) (next : ℕ) : Type 0 where
-  pub image : ImageIn B img
+  pub image : Whole B img
   pub from : s ≤ next
   pub upto : next ≤ fronts B
   pub sound : (f : ℕ) → s ≤ f → f < next → MembersRead B f img

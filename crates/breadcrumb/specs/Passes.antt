@@ -12,8 +12,8 @@ use Rattle.machine.specs.Results.{Result, accepted, refused, andThen}
 use Rattle.machine.specs.Images.{sizeOf, bucketAt}
 use Rattle.machine.specs.Checks.{checkSized}
 use Rattle.machine.specs.Merges.{insertAll}
-use Rattle.breadcrumb.specs.Steps.{inFront, FrontRead, BackRead}
-use Rattle.breadcrumb.specs.Listings.{membersIn, ImageIn}
+use Rattle.breadcrumb.specs.Steps.{inFront, FrontRead, BackRead, Whole}
+use Rattle.breadcrumb.specs.Listings.{membersIn}
 use Rattle.breadcrumb.specs.declared.Fault.{Fault}
 use Rattle.breadcrumb.specs.declared.Fault.the-variants as F
 
@@ -24,7 +24,7 @@ faultOf (some i) = F.At i
 
 -- all buckets of an image of size B were read and are sound
 pub record AllRead (B : ℕ) (img : List ℕ) : Type 0 where
-  pub whole : ImageIn B img
+  pub whole : Whole B img
   pub front : (f : ℕ) → f < fronts B → FrontRead f img
   pub back : (j : ℕ) → j < backyards B → BackRead B j img
 

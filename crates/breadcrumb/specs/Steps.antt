@@ -17,7 +17,9 @@ use Rattle.minifilter.specs.declared.Reading.the-variants as R
 use Rattle.machine.specs.Results.{Result, accepted, refused}
 use Rattle.machine.specs.Images.{sizeOf, lengthOf, bucketAt, frontAt, backAt, putFront, putBack}
 use Rattle.machine.specs.Bags.{addedAll, has, fromFirst}
-use Rattle.machine.specs.Machine.{backyard}
+use Rattle.machine.specs.Machine.{backyard, insertAt, deleteAt}
+use Rattle.breadcrumb.specs.Answers.{Changes}
+use Rattle.breadcrumb.specs.declared.Changed.{Changed}
 use Rattle.breadcrumb.specs.declared.Size.{Size}
 use Rattle.breadcrumb.specs.declared.Size.the-variants.{Buckets, Wrong}
 use Rattle.breadcrumb.specs.declared.Target.{Target}
@@ -54,16 +56,27 @@ abbrev pub LocatedIn : ℕ → ℕ → Located → Type 0
 LocatedIn n k (L.At t) = Locates n k t
 LocatedIn n k L.Wrong = sizeOf n ≡ none
 
--- an image of size B has a front bucket f
-pub record FrontIn (B f : ℕ) (img : List ℕ) : Type 0 where
+-- the bytes of an image of size B
+pub record Whole (B : ℕ) (img : List ℕ) : Type 0 where
   pub long : length img ≡ lengthOf B
   pub small : B ≤ 65536
+
+-- an image of size B has a front bucket f
+pub record FrontIn (B f : ℕ) (img : List ℕ) : Type 0 where
+  pub whole : Whole B img
   pub front : f < fronts B
 
 -- a target that fits an image
 pub record Placed (t : Target) (img : List ℕ) : Type 0 where
   pub within : FrontIn (t .size) (t .front .0) img
   pub key : t .key < keys layout1
+
+-- an insert and a delete at a target, as the machine has them
+abbrev pub InsertsAt : Target → List ℕ → Changed → List ℕ → Type 0
+InsertsAt t old r new = Changes (insertAt layout1 (t .size) (t .front .0) (t .key) old) old r new
+
+abbrev pub DeletesAt : Target → List ℕ → Changed → List ℕ → Type 0
+DeletesAt t old r new = Changes (deleteAt layout1 (t .size) (t .front .0) (t .key) old) old r new
 
 -- backyard bucket j of an image of size B lies in it
 pub record BackIn (B j : ℕ) (img : List ℕ) : Type 0 where
@@ -121,6 +134,20 @@ pub record Exceeds (f x : ℕ) (img : List ℕ) : Type 0 where
   pub whole : FrontFull f img
   pub over : largest (inFront f img) < x
 
+-- "Front(f) holds 28 and g is not below its largest", with so many copies in front
+pub record Reaches (t : Target) (here : ℕ) (img : List ℕ) : Type 0 where
+  pub placed : Placed t img
+  pub whole : FrontFull (t .front .0) img
+  pub reach : largest (inFront (t .front .0) img) ≤ t .key
+  pub many : here ≡ copies (t .key) (inFront (t .front .0) img)
+
+-- a front bucket of n members, none of them the key
+pub record Elsewhere (t : Target) (n : ℕ) (img : List ℕ) : Type 0 where
+  pub placed : Placed t img
+  pub read : FrontRead (t .front .0) img
+  pub many : length (inFront (t .front .0) img) ≡ n
+  pub absent : copies (t .key) (inFront (t .front .0) img) ≡ 0
+
 -- what seeking member y in a backyard bucket finds
 abbrev pub atSlot : Option ℕ → Sought
 atSlot none = S.Absent
@@ -129,6 +156,14 @@ atSlot (some i) = S.At i
 abbrev pub soughtIn : ℕ → Result (List ℕ) → Sought
 soughtIn y (accepted ys) = atSlot (slotOf y ys)
 soughtIn y (refused n i) = S.Unsound i
+
+-- a full front bucket, and a backyard bucket that can take its overflow
+pub record Overflows (t : Target) (w : Overflow) (img : List ℕ) : Type 0 where
+  pub placed : Placed t img
+  pub whole : FrontFull (t .front .0) img
+  pub back : BackRead (t .size) (w .bucket .0) img
+  pub room : length (inBack (t .size) (w .bucket .0) img) < 22
+  pub crumb : w .crumb < 16
 
 -- the image after the largest of front bucket f and x went to backyard bucket and crumb w
 unfoldable pub overflowed : ℕ → ℕ → ℕ → Overflow → List ℕ → List ℕ
@@ -178,6 +213,20 @@ abbrev pub CopySays : ℕ → ℕ → ℕ → List ℕ → Leaving → Type 0
 CopySays B f x img (W.First v) = Copy true B f x img v
 CopySays B f x img (W.Second v) = Copy false B f x img v
 CopySays B f x img W.Nothing = has x (inBoth B f img) ≡ false
+
+-- a copy of v stands in backyard bucket and crumb w
+pub record Stands (B : ℕ) (w : Overflow) (v : ℕ) (img : List ℕ) : Type 0 where
+  pub back : BackRead B (w .bucket .0) img
+  pub there : 0 < copies (v * 16 + w .crumb) (inBack B (w .bucket .0) img)
+  pub crumb : w .crumb < 16
+  pub key : v < keys layout1
+
+-- and a copy of the key in front, whose slot v is to take
+pub record Refills (t : Target) (w : Overflow) (v : ℕ) (img : List ℕ) : Type 0 where
+  pub placed : Placed t img
+  pub front : FrontRead (t .front .0) img
+  pub here : 0 < copies (t .key) (inFront (t .front .0) img)
+  pub behind : Stands (t .size) w v img
 
 -- the image after v left backyard bucket and crumb w
 unfoldable pub takenOut : ℕ → ℕ → Overflow → List ℕ → List ℕ

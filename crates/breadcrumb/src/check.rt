@@ -24,8 +24,7 @@ ghost use Rattle.crumbmap.specs.CrumbMap.{home};
 ghost use Rattle.machine.specs.Checks.{unsoundFront, unsoundBack, homeInTurn, allInTurn, early, checkSized};
 ghost use Rattle.machine.specs.Calls.{checkOf};
 ghost use Rattle.breadcrumb.specs.Answers.{doneOf};
-ghost use Rattle.breadcrumb.specs.Steps.{inBack};
-ghost use Rattle.breadcrumb.specs.Listings.{ImageIn};
+ghost use Rattle.breadcrumb.specs.Steps.{inBack, Whole};
 ghost use Rattle.breadcrumb.specs.Passes.{faultOf, AllRead};
 
 // Whether the bytes are a catalogue.
@@ -40,7 +39,7 @@ pub fn check(image: &[u8]) -> Done
 
 // An image of a size: any 3 comes before any 8.
 pub(crate) fn check_sized(image: &[u8], size: usize) -> Done
-    requires { ⌜ ImageIn size (now image) ⌝ }
+    requires { ⌜ Whole size (now image) ⌝ }
     ensures { λ r. ⌜ doneOf r ≡ checkSized layout1 size (now (image .entry)) ⌝ }
 {
     match unsound_front(image, size) {
@@ -57,7 +56,7 @@ pub(crate) fn check_sized(image: &[u8], size: usize) -> Done
 
 // The first front bucket that is unsound.
 fn unsound_front(image: &[u8], size: usize) -> Fault
-    requires { ⌜ ImageIn size (now image) ⌝ }
+    requires { ⌜ Whole size (now image) ⌝ }
     ensures { λ r. ⌜ r ≡ faultOf (unsoundFront layout1 (fronts size) 0 (now (image .entry))) ⌝ }
 {
     let end = 8 * size;
@@ -73,7 +72,7 @@ fn unsound_front(image: &[u8], size: usize) -> Fault
 
 // The first backyard bucket that is unsound.
 fn unsound_back(image: &[u8], size: usize) -> Fault
-    requires { ⌜ ImageIn size (now image) ⌝ }
+    requires { ⌜ Whole size (now image) ⌝ }
     ensures { λ r. ⌜ r ≡ faultOf (unsoundBack layout1 size (backyards size) 0 (now (image .entry))) ⌝ }
 {
     let end = size + 7;

@@ -16,13 +16,11 @@ use crumbmap::map::first_of;
 use crumbmap::map::second_of;
 use minifilter::Reading;
 ghost use mathlib.Core.Path.{_≡_};
-ghost use Prim.Native.Nat.{_≤_};
-ghost use Rattle.multiset.specs.Multisets.{copies, largest};
 ghost use Rattle.crumbmap.specs.Layouts.{layout1};
 ghost use Rattle.machine.specs.Machine.{countAt};
 ghost use Rattle.machine.specs.Calls.{countOf};
 ghost use Rattle.breadcrumb.specs.Answers.{countedOf};
-ghost use Rattle.breadcrumb.specs.Steps.{Placed, inFront, FrontFull};
+ghost use Rattle.breadcrumb.specs.Steps.{Placed, Reaches};
 
 // How many copies of a hash's fingerprint there are, and how many buckets were read to tell.
 pub fn count(image: &[u8], hash: u64) -> Tally
@@ -55,8 +53,7 @@ fn count_front(image: &[u8], target: Target) -> Tally
 
 // The backyard buckets of a front bucket that holds 28, none larger; `here` copies stand in front.
 fn count_behind(image: &[u8], target: Target, here: usize) -> Tally
-    requires { ⌜ Placed target (now image) × FrontFull (target .front .0) (now image)
-        × (largest (inFront (target .front .0) (now image)) ≤ target .key) × (here ≡ copies (target .key) (inFront (target .front .0) (now image))) ⌝ }
+    requires { ⌜ Reaches target here (now image) ⌝ }
     ensures { λ r. ⌜ countedOf r ≡ countAt layout1 (target .size) (target .front .0) (target .key) (now (image .entry)) ⌝ }
 {
     let size = target.size;

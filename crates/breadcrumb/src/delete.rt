@@ -25,14 +25,10 @@ use crumbmap::map::second_of;
 use minifilter::Carried;
 use minifilter::Reading;
 ghost use mathlib.Core.Path.{_≡_};
-ghost use Prim.Native.Nat.{_+_, _*_, _<_};
-ghost use lib.ListN.{length};
+ghost use Prim.Native.Nat.{_+_, _<_};
 ghost use Rattle.multiset.specs.Multisets.{copies};
-ghost use Rattle.crumbmap.specs.Layouts.{layout1, keys};
-ghost use Rattle.crumbmap.specs.CrumbMap.{firstBucket, secondBucket};
-ghost use Rattle.machine.specs.Machine.{deleteAt};
-ghost use Rattle.breadcrumb.specs.Answers.{Changes, Deletes};
-ghost use Rattle.breadcrumb.specs.Steps.{FrontIn, Placed, inFront, inBack, FrontRead, BackRead, FrontFull, Exceeds, BothHold, LeastSays, CopySays, takenOut, refilled};
+ghost use Rattle.breadcrumb.specs.Answers.{Deletes};
+ghost use Rattle.breadcrumb.specs.Steps.{FrontIn, Placed, DeletesAt, inFront, FrontFull, Exceeds, Elsewhere, BothHold, LeastSays, CopySays, Stands, Refills, takenOut, refilled};
 
 // One copy less of a hash's fingerprint.
 pub fn delete(image: &mut [u8], hash: u64) -> Changed
@@ -47,7 +43,7 @@ pub fn delete(image: &mut [u8], hash: u64) -> Changed
 // The copy stands in the front bucket, or not.
 fn delete_at(image: &mut [u8], target: Target) -> Changed
     requires { ⌜ Placed target (now image) ⌝ }
-    ensures { λ r. ⌜ Changes (deleteAt layout1 (target .size) (target .front .0) (target .key) (now (image .entry))) (now (image .entry)) r (now (image .exit)) ⌝ }
+    ensures { λ r. ⌜ DeletesAt target (now (image .entry)) r (now (image .exit)) ⌝ }
 {
     let front = target.front;
     let Reading::Members(n) = read_front_at(image, front) else {
@@ -66,7 +62,7 @@ fn delete_at(image: &mut [u8], target: Target) -> Changed
 // A copy leaves a front bucket that holds 28: the smallest member behind takes its slot.
 fn refill(image: &mut [u8], target: Target) -> Changed
     requires { ⌜ Placed target (now image) × FrontFull (target .front .0) (now image) × (0 < copies (target .key) (inFront (target .front .0) (now image))) ⌝ }
-    ensures { λ r. ⌜ Changes (deleteAt layout1 (target .size) (target .front .0) (target .key) (now (image .entry))) (now (image .entry)) r (now (image .exit)) ⌝ }
+    ensures { λ r. ⌜ DeletesAt target (now (image .entry)) r (now (image .exit)) ⌝ }
 {
     let size = target.size;
     let front = target.front;
@@ -95,9 +91,7 @@ fn refill(image: &mut [u8], target: Target) -> Changed
 
 // A member of a backyard bucket takes the slot of the copy that leaves in front.
 fn refill_from(image: &mut [u8], target: Target, way: Overflow, key: u32) -> usize
-    requires { ⌜ Placed target (now image) × FrontRead (target .front .0) (now image) × (0 < copies (target .key) (inFront (target .front .0) (now image)))
-        × BackRead (target .size) (way .bucket .0) (now image) × (0 < copies (key * 16 + way .crumb) (inBack (target .size) (way .bucket .0) (now image)))
-        × (way .crumb < 16) × (key < keys layout1) ⌝ }
+    requires { ⌜ Refills target way key (now image) ⌝ }
     ensures { λ r. ⌜ (r ≡ 1 + way .bucket .0)
         × (now (image .exit) ≡ refilled (target .size) (target .front .0) (target .key) key way (now (image .entry))) ⌝ }
 {
@@ -138,9 +132,8 @@ fn least_behind(image: &[u8], size: usize, front: Front, n0: usize, n1: usize) -
 
 // No copy in front: one may stand behind a front bucket that holds 28, all smaller.
 fn delete_other(image: &mut [u8], target: Target, n: usize) -> Changed
-    requires { ⌜ Placed target (now image) × FrontRead (target .front .0) (now image) × (length (inFront (target .front .0) (now image)) ≡ n)
-        × (copies (target .key) (inFront (target .front .0) (now image)) ≡ 0) ⌝ }
-    ensures { λ r. ⌜ Changes (deleteAt layout1 (target .size) (target .front .0) (target .key) (now (image .entry))) (now (image .entry)) r (now (image .exit)) ⌝ }
+    requires { ⌜ Elsewhere target n (now image) ⌝ }
+    ensures { λ r. ⌜ DeletesAt target (now (image .entry)) r (now (image .exit)) ⌝ }
 {
     if n < 28 {
         return Changed::Refused(Refusal::Absent);
@@ -154,7 +147,7 @@ fn delete_other(image: &mut [u8], target: Target, n: usize) -> Changed
 // A copy leaves First(f) or Second(f).
 fn delete_behind(image: &mut [u8], target: Target) -> Changed
     requires { ⌜ Placed target (now image) × Exceeds (target .front .0) (target .key) (now image) ⌝ }
-    ensures { λ r. ⌜ Changes (deleteAt layout1 (target .size) (target .front .0) (target .key) (now (image .entry))) (now (image .entry)) r (now (image .exit)) ⌝ }
+    ensures { λ r. ⌜ DeletesAt target (now (image .entry)) r (now (image .exit)) ⌝ }
 {
     let size = target.size;
     let front = target.front;
@@ -206,8 +199,7 @@ fn copy_behind(image: &[u8], target: Target, n0: usize, n1: usize) -> Leaving
 
 // One copy of a key leaves a backyard bucket, with the crumb that it carries there.
 fn take_out(image: &mut [u8], size: usize, way: Overflow, key: u32) -> usize
-    requires { ⌜ BackRead size (way .bucket .0) (now image) × (0 < copies (key * 16 + way .crumb) (inBack size (way .bucket .0) (now image)))
-        × (way .crumb < 16) × (key < keys layout1) ⌝ }
+    requires { ⌜ Stands size way key (now image) ⌝ }
     ensures { λ r. ⌜ (r ≡ 1 + way .bucket .0) × (now (image .exit) ≡ takenOut size key way (now (image .entry))) ⌝ }
 {
     let bucket = way.bucket;

@@ -18,12 +18,9 @@ use crumbmap::map::first_of;
 use crumbmap::map::second_of;
 use minifilter::Reading;
 ghost use mathlib.Core.Path.{_≡_};
-ghost use Prim.Native.Nat.{_+_, _<_};
-ghost use lib.ListN.{length};
-ghost use Rattle.crumbmap.specs.Layouts.{layout1};
-ghost use Rattle.machine.specs.Machine.{insertAt};
-ghost use Rattle.breadcrumb.specs.Answers.{Changes, Inserts};
-ghost use Rattle.breadcrumb.specs.Steps.{Placed, inBack, BackRead, FrontFull, overflowed};
+ghost use Prim.Native.Nat.{_+_};
+ghost use Rattle.breadcrumb.specs.Answers.{Inserts};
+ghost use Rattle.breadcrumb.specs.Steps.{Placed, InsertsAt, FrontFull, Overflows, overflowed};
 
 // One more copy of a hash's fingerprint.
 pub fn insert(image: &mut [u8], hash: u64) -> Changed
@@ -38,7 +35,7 @@ pub fn insert(image: &mut [u8], hash: u64) -> Changed
 // The front bucket has a free slot, or its overflow has to go behind it.
 pub(crate) fn insert_at(image: &mut [u8], target: Target) -> Changed
     requires { ⌜ Placed target (now image) ⌝ }
-    ensures { λ r. ⌜ Changes (insertAt layout1 (target .size) (target .front .0) (target .key) (now (image .entry))) (now (image .entry)) r (now (image .exit)) ⌝ }
+    ensures { λ r. ⌜ InsertsAt target (now (image .entry)) r (now (image .exit)) ⌝ }
 {
     let front = target.front;
     let Reading::Members(n) = read_front_at(image, front) else {
@@ -54,7 +51,7 @@ pub(crate) fn insert_at(image: &mut [u8], target: Target) -> Changed
 // Which backyard bucket takes the overflow of a front bucket that holds 28. Where n0 is not below n1, both hold 22 if b1 does.
 fn insert_full(image: &mut [u8], target: Target) -> Changed
     requires { ⌜ Placed target (now image) × FrontFull (target .front .0) (now image) ⌝ }
-    ensures { λ r. ⌜ Changes (insertAt layout1 (target .size) (target .front .0) (target .key) (now (image .entry))) (now (image .entry)) r (now (image .exit)) ⌝ }
+    ensures { λ r. ⌜ InsertsAt target (now (image .entry)) r (now (image .exit)) ⌝ }
 {
     let size = target.size;
     let front = target.front;
@@ -76,8 +73,7 @@ fn insert_full(image: &mut [u8], target: Target) -> Changed
 
 // The largest of the front bucket's members and the key goes to a backyard bucket; the rest stay in front.
 fn overflow_to(image: &mut [u8], target: Target, way: Overflow) -> usize
-    requires { ⌜ Placed target (now image) × FrontFull (target .front .0) (now image) × BackRead (target .size) (way .bucket .0) (now image)
-        × (length (inBack (target .size) (way .bucket .0) (now image)) < 22) × (way .crumb < 16) ⌝ }
+    requires { ⌜ Overflows target way (now image) ⌝ }
     ensures { λ r. ⌜ (r ≡ 1 + way .bucket .0)
         × (now (image .exit) ≡ overflowed (target .size) (target .front .0) (target .key) way (now (image .entry))) ⌝ }
 {

@@ -20,7 +20,8 @@ ghost use Rattle.crumbmap.specs.Layouts.{layout1, keys as allKeys, fronts};
 ghost use Rattle.crumbmap.specs.Fingerprints.{fingerprint};
 ghost use Rattle.machine.specs.Pages.{pageFrom};
 ghost use Rattle.breadcrumb.specs.Answers.{Pages, Writes};
-ghost use Rattle.breadcrumb.specs.Listings.{Listed, membersIn, MembersRead, ImageIn, entriesIn, Ran, ReachSays};
+ghost use Rattle.breadcrumb.specs.Steps.{Whole};
+ghost use Rattle.breadcrumb.specs.Listings.{Listed, membersIn, MembersRead, entriesIn, Ran, ReachSays};
 
 // The members from front bucket `start` on into `out`: how many, and the next bucket.
 pub fn page(image: &[u8], start: usize, out: &mut [u64]) -> Paged
@@ -37,7 +38,7 @@ pub fn page(image: &[u8], start: usize, out: &mut [u64]) -> Paged
 
 // From a front bucket of the image, or from its end.
 fn page_from(image: &[u8], size: usize, start: usize, out: &mut [u64]) -> Paged
-    requires { ⌜ ImageIn size (now image) × (start ≤ fronts size) ⌝ }
+    requires { ⌜ Whole size (now image) × (start ≤ fronts size) ⌝ }
     ensures { λ r. ⌜ Writes (pageFrom layout1 size start (length (now (out .entry))) (now (image .entry))) (now (out .entry)) r (now (out .exit)) ⌝ }
 {
     match measure(image, size, start, out.len()) {
@@ -55,7 +56,7 @@ fn page_from(image: &[u8], size: usize, start: usize, out: &mut [u64]) -> Paged
 
 // How far the run goes: buckets are read and counted "until one does not fit".
 fn measure(image: &[u8], size: usize, start: usize, room: usize) -> Reach
-    requires { ⌜ ImageIn size (now image) × (start ≤ fronts size) ⌝ }
+    requires { ⌜ Whole size (now image) × (start ≤ fronts size) ⌝ }
     ensures { λ r. ⌜ ReachSays size start room (now (image .entry)) r ⌝ }
 {
     let mut f = start;

@@ -5,10 +5,10 @@ use mathlib.Core.Path.{_≡_}
 use mathlib.Core.Logic.{_⊎_}
 use Prim.Native.Nat.{ℕ}
 use mathlib.Core.List.{List}
-use native.Mathlib.Omega.{arith}
 use lib.ListN.{length}
 use Rattle.crumbmap.specs.Layouts.{Layout, layout1}
 use Rattle.minifilter.specs.Buckets.{Fits64}
+use Rattle.minifilter.proofs.BucketLaws.{fits1}
 use Rattle.machine.specs.Results.{accepted, number}
 use Rattle.machine.specs.Calls.{checkOf, mergeOf}
 use Rattle.history.specs.Histories.{History, Started, blocks, bytesAfter}
@@ -31,9 +31,6 @@ demand3 L fits h s =
     }
 
 -- ---- layout 1
-
-pub fits1 : Fits64 layout1
-fits1 = record { minis = omega arith; slots = omega arith; front = omega arith; back = omega arith }
 
 pub demand3-layout1 : Demand3 layout1
 demand3-layout1 = demand3 layout1 fits1

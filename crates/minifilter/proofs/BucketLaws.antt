@@ -7,10 +7,10 @@ use mathlib.Core.Option.{some, bind, bind-eq-some-iff}
 use native.Mathlib.Omega.{arith}
 use lib.ListN.{length, drop, replicate, length-append, length-drop, take-append-drop}
 use lib.Seq.{take-all, drop-at}
-use lib.Dec.{T}
+use lib.Dec.{T, lit<, lit≤}
 use Rattle.multiset.specs.Multisets.{ascending, allZero, Below}
 use Rattle.multiset.specs.Digits.{spread, grouped, padded, joined, highs, lows}
-use Rattle.crumbmap.specs.Layouts.{Layout, keys}
+use Rattle.crumbmap.specs.Layouts.{Layout, keys, layout1}
 use Rattle.minifilter.specs.Buckets.{
   FrontList,
   BackList,
@@ -123,6 +123,10 @@ module _ (L : Layout) where
   read-back B j b ys e =
       let found : (xs : List ℕ) × (slotKeys L (L .backSlots) b ≡ some xs) × (_ ≡ some ys) = bind-eq-some-iff _ _ .0 e in
       back-checked B j b ys (joined 16 (found .0) (crumbsIn L b)) (found .0) refl (found .1) (found .2)
+
+-- the layout of document 01
+pub fits1 : Fits64 layout1
+fits1 = record { minis = lit< tt; slots = lit< tt; front = lit≤ tt; back = lit≤ tt }
 
 module _ (L : Layout) (fits : Fits64 L) where
   -- ---- lengths

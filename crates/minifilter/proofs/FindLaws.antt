@@ -34,7 +34,7 @@ use Rattle.multiset.proofs.DigitLaws.{
 use Rattle.minifilter.proofs.ElementLaws.{grouped-at}
 use Rattle.minifilter.proofs.WordLaws.{Run, Coded, coded-word, minis-coded, ones-coded, coded-lt}
 use Rattle.minifilter.proofs.SlotBytes.{run-highs, length-slotBytes, wordIn-slotBytes, tagsIn-slotBytes}
-use Rattle.minifilter.proofs.BucketLaws.{frontMembers-list, backMembers-list, frontBytes-frontMembers, backBytes-backMembers}
+use Rattle.minifilter.proofs.BucketLaws.{fits1, frontMembers-list, backMembers-list, frontBytes-frontMembers, backBytes-backMembers}
 
 -- ---- lists
 
@@ -62,9 +62,6 @@ pub smaller-on : (f : ℕ → ℕ) (from slot low : ℕ) → ((i : ℕ) → from
 smaller-on f from slot low before here i h l = elim (ℕ-discrete i slot) [ yes e ↦ rw e here | no n ↦ before i h (omega arith) ]
 
 -- ---- layout 1
-
-pub fits1 : Fits64 layout1
-fits1 = record { minis = lit< tt; slots = lit< tt; front = lit≤ tt; back = lit≤ tt }
 
 -- a word of 36 mini-buckets and up to 28 members
 word-minis : (ms : List ℕ) → Run 0 36 ms → length ms ≤ 28 → minisOf (wordFrom 36 0 ms) ≡ ms

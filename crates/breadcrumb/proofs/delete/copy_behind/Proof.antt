@@ -1,7 +1,8 @@
-use borrow.Author.Needs.{needs}
+-- `breadcrumb::delete::copy_behind` meets its contract. The choice goes by the copies in First(f) and in Second(f), and by n0 and n1.
 use mathlib.Core.Path.{_≡_}
 use mathlib.Core.Bool.{true, false}
 use native.Mathlib.Omega.{arith}
+use borrow.Author.Needs.{needs}
 use borrow.Author.Tests.{lt-ltb, le-ltb}
 use Rattle.multiset.specs.Multisets.{copies}
 use Rattle.breadcrumb.specs.Steps.{inFirst, inSecond}
@@ -9,59 +10,76 @@ use Rattle.breadcrumb.proofs.StepLaws.{chosen-way}
 use Rattle.breadcrumb.proofs.LeavingLaws.{above-zero, first-copies, second-copies, copy-none, copy-first, copy-second, copy-both}
 use Rattle.breadcrumb.proofs.delete.copy_behind.Statement.{statement}
 use Rattle.breadcrumb.proofs.delete.copy_behind.Tie as tie
-use Rattle.breadcrumb.proofs.delete.copy_behind.Reads as reads
-use Rattle.breadcrumb.proofs.delete.copy_behind.Lts as lts
-use Rattle.breadcrumb.proofs.backyard.copies_at.Reads as copies-at-reads
-use Rattle.crumbmap.proofs.map.first_of.Reads as first-of-reads
-use Rattle.crumbmap.proofs.map.second_of.Reads as second-of-reads
 
--- src/delete.rt:169:43
 first-of-requires : tie.Need-first-of-requires
 first-of-requires c κs = search needs
 
--- src/delete.rt:169:9
 copies-at-requires : tie.Need-copies-at-requires
-copies-at-requires c κs = let l = c .first-of .ensures in (chosen-way (c .before .before .before .pre .1 .read) true l, l .small, c .before .before .before .pre .0 .key)
+copies-at-requires c κs =
+    let c3 = c .before .before .before in
+    let l = c .first-of .ensures in
+    (chosen-way (c3 .pre .1 .read) true l, l .small, c3 .pre .0 .key)
 
--- src/delete.rt:170:44
 second-of-requires : tie.Need-second-of-requires
 second-of-requires c κs = search needs
 
--- src/delete.rt:170:9
 copies-at-requires-2 : tie.Need-copies-at-requires-2
-copies-at-requires-2 c κs = let l = c .second-of .ensures in (chosen-way (c .before .before .before .before .before .pre .1 .read) false l, l .small, c .before .before .before .before .before .pre .0 .key)
+copies-at-requires-2 c κs =
+    let c5 = c .before .before .before .before .before in
+    let l = c .second-of .ensures in
+    (chosen-way (c5 .pre .1 .read) false l, l .small, c5 .pre .0 .key)
 
 -- the copies in First(f) and in Second(f)
-first : (c : tie.After-copies-at2) → c .before .before .copies-at .result ≡ copies (c .before .before .before .before .before .before .args .target .key) (inFirst (c .before .before .before .before .before .before .args .target .size) (c .before .before .before .before .before .before .args .target .front .0) (c .before .before .before .before .before .before .args .image .now))
-first c = first-copies (c .before .before .before .before .before .before .args .image .now) (c .before .before .before .before .before .before .args .target .key) (c .before .before .before .first-of .ensures) (c .before .before .copies-at .ensures .0)
+first : (c : tie.After-copies-at2) →
+    let s = c .before .before .before .before .before .before in
+    let t = s .args .target in
+    c .before .before .copies-at .result ≡ copies (t .key) (inFirst (t .size) (t .front .0) (s .args .image .now))
+first c =
+    let c3 = c .before .before .before in
+    let c6 = c3 .before .before .before in
+    first-copies (c6 .args .image .now) (c6 .args .target .key) (c3 .first-of .ensures) (c .before .before .copies-at .ensures .0)
 
-second : (c : tie.After-copies-at2) → c .copies-at2 .result ≡ copies (c .before .before .before .before .before .before .args .target .key) (inSecond (c .before .before .before .before .before .before .args .target .size) (c .before .before .before .before .before .before .args .target .front .0) (c .before .before .before .before .before .before .args .image .now))
-second c = second-copies (c .before .before .before .before .before .before .args .image .now) (c .before .before .before .before .before .before .args .target .key) (c .before .second-of .ensures) (c .copies-at2 .ensures .0)
+second : (c : tie.After-copies-at2) →
+    let s = c .before .before .before .before .before .before in
+    let t = s .args .target in
+    c .copies-at2 .result ≡ copies (t .key) (inSecond (t .size) (t .front .0) (s .args .image .now))
+second c =
+    let c6 = c .before .before .before .before .before .before in
+    second-copies (c6 .args .image .now) (c6 .args .target .key) (c .before .second-of .ensures) (c .copies-at2 .ensures .0)
 
--- src/delete.rt:173:13
 returns : tie.Need-returns
-returns c = copy-none (c .before .before .before .before .before .before .before .before .args .target .key) (c .before .before .before .before .before .before .before .before .pre .1 .read) (omega (arith, first (c .before .before))) (omega (arith, second (c .before .before)))
+returns c =
+    let c8 = c .before .before .before .before .before .before .before .before in
+    copy-none (c8 .args .target .key) (c8 .pre .1 .read) (omega (arith, first (c .before .before))) (omega (arith, second (c .before .before)))
 
--- src/delete.rt:175:9
 returns-2 : tie.Need-returns-2
-returns-2 c = copy-second (c .before .before .before .before .before .before .before .before .args .target .key) (c .before .before .before .before .before .before .before .before .pre .1 .read) (omega (arith, first (c .before .before))) (rw (second (c .before .before)) at (above-zero _ (c .if2 .left)))
+returns-2 c =
+    let c8 = c .before .before .before .before .before .before .before .before in
+    copy-second (c8 .args .target .key) (c8 .pre .1 .read) (omega (arith, first (c .before .before)))
+    (rw (second (c .before .before)) at (above-zero _ (c .if2 .left)))
 
--- src/delete.rt:178:9
 returns-3 : tie.Need-returns-3
-returns-3 c = copy-first (c .before .before .before .before .before .before .before .before .args .target .key) (c .before .before .before .before .before .before .before .before .pre .1 .read) (rw (first (c .before .before)) at (above-zero _ (c .before .if1 .left))) (omega (arith, second (c .before .before)))
+returns-3 c =
+    let c8 = c .before .before .before .before .before .before .before .before in
+    copy-first (c8 .args .target .key) (c8 .pre .1 .read) (rw (first (c .before .before)) at (above-zero _ (c .before .if1 .left)))
+    (omega (arith, second (c .before .before)))
 
--- src/delete.rt:162:1
 returns-4 : tie.Need-returns-4
 returns-4 c =
-    let b = c .before .before .before .before .before .before .before .before .before .pre .1 in
-    copy-both (c .before .before .before .before .before .before .before .before .before .args .target .key) (b .read) true (rw (first (c .before .before .before)) at (above-zero _ (c .before .before .if1 .left))) (rw (second (c .before .before .before)) at (above-zero _ (c .before .if3 .left)))
+    let c3 = c .before .before .before in
+    let c9 = c3 .before .before .before .before .before .before in
+    let b = c9 .pre .1 in
+    copy-both (c9 .args .target .key) (b .read) true (rw (first c3) at (above-zero _ (c .before .before .if1 .left)))
+    (rw (second c3) at (above-zero _ (c .before .if3 .left)))
     (rw (b .first, b .second) (lt-ltb _ _ (c .if4 .taken)))
 
--- src/delete.rt:162:1
 returns-5 : tie.Need-returns-5
 returns-5 c =
-    let b = c .before .before .before .before .before .before .before .before .before .pre .1 in
-    copy-both (c .before .before .before .before .before .before .before .before .before .args .target .key) (b .read) false (rw (first (c .before .before .before)) at (above-zero _ (c .before .before .if1 .left))) (rw (second (c .before .before .before)) at (above-zero _ (c .before .if3 .left)))
+    let c3 = c .before .before .before in
+    let c9 = c3 .before .before .before .before .before .before in
+    let b = c9 .pre .1 in
+    copy-both (c9 .args .target .key) (b .read) false (rw (first c3) at (above-zero _ (c .before .before .if1 .left)))
+    (rw (second c3) at (above-zero _ (c .before .if3 .left)))
     (rw (b .first, b .second) (le-ltb _ _ (c .if4 .left)))
 
 pub copy-behind-spec : {M : Type 1} → statement M

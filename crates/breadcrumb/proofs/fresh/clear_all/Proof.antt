@@ -1,3 +1,5 @@
+-- `breadcrumb::fresh::clear_all` meets its contract.
+-- The loop's invariant: the first `i` buckets are empty, the rest is as it was. The measure is how many buckets are left.
 use mathlib.Core.Path.{_≡_, refl, _∙_, ap}
 use Prim.Native.Nat.{ℕ, _*_, _-_, _≤_}
 use mathlib.Core.List.{List, [], _++_, append-nil}
@@ -9,54 +11,50 @@ use Rattle.machine.specs.Images.{put, repeated}
 use Rattle.breadcrumb.proofs.EmptyLaws.{length-empty-bucket, cleared-more}
 use Rattle.breadcrumb.proofs.fresh.clear_all.Statement.{statement}
 use Rattle.breadcrumb.proofs.fresh.clear_all.Tie as tie
-use Rattle.breadcrumb.proofs.fresh.clear_all.Reads as reads
-use Rattle.breadcrumb.proofs.fresh.clear_all.Lts as lts
-use Rattle.breadcrumb.proofs.image.clear_at.Reads as clear-at-reads
 
 abbrev Inv-loop : tie.InvT-loop
-Inv-loop image₀ buckets i₀ image i = (i ≤ buckets) × (length image ≡ length image₀) × (image ≡ repeated i (frontBytes layout1 []) ++ drop (64 * i) image₀)
+Inv-loop image₀ buckets i₀ image i =
+    (i ≤ buckets) × (length image ≡ length image₀)
+    × (image ≡ repeated i (frontBytes layout1 []) ++ drop (64 * i) image₀)
 
 abbrev μ-loop : tie.MeasureT-loop
 μ-loop image₀ buckets i₀ image i = buckets - i
 
--- src/fresh.rt:34:5
 loop-holds : tie.Need-loop-holds Inv-loop μ-loop
 unfolding repeated
 loop-holds c = (omega arith, refl, refl)
 
--- src/fresh.rt:35:9
 clear-at-requires : tie.Need-clear-at-requires Inv-loop μ-loop
 clear-at-requires c κs = omega arith
 
--- src/fresh.rt:36:9
 add-i : tie.Need-add-i Inv-loop μ-loop
 add-i c = omega arith
 
--- src/fresh.rt:34:5
 loop-less : tie.Need-loop-less Inv-loop μ-loop
 loop-less c = omega arith
 
--- src/fresh.rt:34:5
 loop-again : tie.Need-loop-again Inv-loop μ-loop
 loop-again c =
-    let l = c .before .before .before .before .before .loop in
+    let c5 = c .before .before .before .before .before in
+    let c7 = c5 .before .before in
+    let l = c5 .loop in
     let e = frontBytes layout1 [] in (
       omega arith,
       omega (arith, c .before .before .clear-at .kept .0),
-      c .before .before .clear-at .ensures ∙ ap (λ (x : List ℕ). put (l .i) e x) (l .inv .2) ∙ cleared-more (l .i) e (c .before .before .before .before .before .before .before .args .image .now) length-empty-bucket,
+      c .before .before .clear-at .ensures ∙ ap (λ (x : List ℕ). put (l .i) e x) (l .inv .2) ∙ cleared-more (l .i) e
+          (c7 .args .image .now) length-empty-bucket,
     )
 
--- src/fresh.rt:29:1
 same-length : tie.Need-same-length Inv-loop μ-loop
 same-length c = c .before .loop .inv .1
 
--- src/fresh.rt:29:1
 returns : tie.Need-returns Inv-loop μ-loop
 returns c =
+    let c3 = c .before .before .before in
     let l = c .before .loop in
-    let s = c .before .before .before .args in
+    let s = c3 .args in
     let e : l .i ≡ s .buckets = omega arith in
-    let d : length (s .image .now) ≤ 64 * l .i = omega (arith, c .before .before .before .pre) in
+    let d : length (s .image .now) ≤ 64 * l .i = omega (arith, c3 .pre) in
     l .inv .2 ∙ rw (drop-of-length-le (s .image .now) d, e) (append-nil (repeated (s .buckets) (frontBytes layout1 [])))
 
 pub clear-all-spec : {M : Type 1} → statement M

@@ -1,40 +1,30 @@
+-- `breadcrumb::image::clear_at` meets its contract. The part that is written is the bucket (`put-part`).
 use borrow.Author.Needs.{needs}
 use Rattle.breadcrumb.proofs.PartLaws.{put-part}
 use Rattle.breadcrumb.proofs.image.clear_at.Statement.{statement}
 use Rattle.breadcrumb.proofs.image.clear_at.Tie as tie
-use Rattle.breadcrumb.proofs.image.clear_at.Reads as reads
-use Rattle.breadcrumb.proofs.image.clear_at.Lts as lts
-use Rattle.minifilter.proofs.edit.clear.Reads as clear-reads
 
--- src/image.rt:169:14
 mul-at : tie.Need-mul-at
 mul-at c = search needs
 
--- src/image.rt:170:15
 add-end : tie.Need-add-end
 add-end c = search needs
 
--- src/image.rt:171:11
 sub-clear : tie.Need-sub-clear
 sub-clear c = search needs
 
--- src/image.rt:171:11
 part-clear-start : tie.Need-part-clear-start
 part-clear-start c = search needs
 
--- src/image.rt:171:11
 part-clear-end : tie.Need-part-clear-end
 part-clear-end c = search needs
 
--- src/image.rt:171:5
 clear-requires : tie.Need-clear-requires
 clear-requires c κs = search needs
 
--- src/image.rt:165:1
 same-length : tie.Need-same-length
 same-length c = search needs
 
--- src/image.rt:165:1
 returns : tie.Need-returns
 returns c =
     let a = c .before .before .before .before .before .args in

@@ -1,36 +1,27 @@
+-- `breadcrumb::image::find_front_at` meets its contract. The part is the front bucket (`part-bucket`).
 use borrow.Author.Needs.{needs}
 use Rattle.breadcrumb.proofs.PartLaws.{part-bucket}
 use Rattle.breadcrumb.proofs.image.find_front_at.Statement.{statement}
 use Rattle.breadcrumb.proofs.image.find_front_at.Tie as tie
-use Rattle.breadcrumb.proofs.image.find_front_at.Reads as reads
-use Rattle.breadcrumb.proofs.image.find_front_at.Lts as lts
-use Rattle.minifilter.proofs.find.find_front.Reads as find-front-reads
 
--- src/image.rt:86:14
 mul-at : tie.Need-mul-at
 mul-at c = search needs
 
--- src/image.rt:87:15
 add-end : tie.Need-add-end
 add-end c = search needs
 
--- src/image.rt:88:16
 sub-find-front : tie.Need-sub-find-front
 sub-find-front c = search needs
 
--- src/image.rt:88:16
 part-find-front-start : tie.Need-part-find-front-start
 part-find-front-start c = search needs
 
--- src/image.rt:88:16
 part-find-front-end : tie.Need-part-find-front-end
 part-find-front-end c = search needs
 
--- src/image.rt:88:5
 find-front-requires : tie.Need-find-front-requires
 find-front-requires c κs = let p = c .before .before .pre in rw part-bucket (p .0 .sound, p .1)
 
--- src/image.rt:81:1
 returns : tie.Need-returns
 returns c = rw part-bucket at (c .find-front .ensures)
 

@@ -1,36 +1,27 @@
+-- `breadcrumb::image::largest_front_at` meets its contract. The part is the front bucket (`part-bucket`).
 use borrow.Author.Needs.{needs}
 use Rattle.breadcrumb.proofs.PartLaws.{part-bucket}
 use Rattle.breadcrumb.proofs.image.largest_front_at.Statement.{statement}
 use Rattle.breadcrumb.proofs.image.largest_front_at.Tie as tie
-use Rattle.breadcrumb.proofs.image.largest_front_at.Reads as reads
-use Rattle.breadcrumb.proofs.image.largest_front_at.Lts as lts
-use Rattle.minifilter.proofs.find.largest_front.Reads as largest-front-reads
 
--- src/image.rt:97:14
 mul-at : tie.Need-mul-at
 mul-at c = search needs
 
--- src/image.rt:98:15
 add-end : tie.Need-add-end
 add-end c = search needs
 
--- src/image.rt:99:19
 sub-largest-front : tie.Need-sub-largest-front
 sub-largest-front c = search needs
 
--- src/image.rt:99:19
 part-largest-front-start : tie.Need-part-largest-front-start
 part-largest-front-start c = search needs
 
--- src/image.rt:99:19
 part-largest-front-end : tie.Need-part-largest-front-end
 part-largest-front-end c = search needs
 
--- src/image.rt:99:5
 largest-front-requires : tie.Need-largest-front-requires
 largest-front-requires c κs = let p = c .before .before .pre in rw part-bucket (p .0 .sound, p .1)
 
--- src/image.rt:92:1
 returns : tie.Need-returns
 returns c = rw part-bucket at (c .largest-front .ensures)
 

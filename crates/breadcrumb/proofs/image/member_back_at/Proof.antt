@@ -1,6 +1,6 @@
--- The member at a slot of a backyard bucket of the image, from what minifilter says of its 64 bytes.
-use Rattle.breadcrumb.proofs.PartLaws.{part-bucket}
+-- `breadcrumb::image::member_back_at` meets its contract. The part is the backyard bucket (`part-bucket`).
 use borrow.Author.Needs.{needs}
+use Rattle.breadcrumb.proofs.PartLaws.{part-bucket}
 use Rattle.breadcrumb.proofs.image.member_back_at.Statement.{statement}
 use Rattle.breadcrumb.proofs.image.member_back_at.Tie as tie
 
@@ -23,7 +23,10 @@ part-member-back-end : tie.Need-part-member-back-end
 part-member-back-end c = search needs
 
 member-back-requires : tie.Need-member-back-requires
-member-back-requires c κs = let p = c .before .before .before .pre in rw (c .before .table-of .ensures, part-bucket) (p .0 .sound, p .1)
+member-back-requires c κs =
+    let c3 = c .before .before .before in
+    let p = c3 .pre in
+    rw (c .before .table-of .ensures, part-bucket) (p .0 .sound, p .1)
 
 returns : tie.Need-returns
 returns c = rw (c .before .before .table-of .ensures, part-bucket) at (c .member-back .ensures)

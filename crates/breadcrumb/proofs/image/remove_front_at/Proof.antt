@@ -1,41 +1,31 @@
+-- `breadcrumb::image::remove_front_at` meets its contract. The part that is written is the front bucket (`put-part`).
 use borrow.Author.Needs.{needs}
-use Rattle.breadcrumb.proofs.PartLaws.{part-bucket, put-part}
 use Rattle.machine.specs.Images.{putFront}
+use Rattle.breadcrumb.proofs.PartLaws.{part-bucket, put-part}
 use Rattle.breadcrumb.proofs.image.remove_front_at.Statement.{statement}
 use Rattle.breadcrumb.proofs.image.remove_front_at.Tie as tie
-use Rattle.breadcrumb.proofs.image.remove_front_at.Reads as reads
-use Rattle.breadcrumb.proofs.image.remove_front_at.Lts as lts
-use Rattle.minifilter.proofs.edit.remove_front.Reads as remove-front-reads
 
--- src/image.rt:139:14
 mul-at : tie.Need-mul-at
 mul-at c = search needs
 
--- src/image.rt:140:15
 add-end : tie.Need-add-end
 add-end c = search needs
 
--- src/image.rt:141:18
 sub-remove-front : tie.Need-sub-remove-front
 sub-remove-front c = search needs
 
--- src/image.rt:141:18
 part-remove-front-start : tie.Need-part-remove-front-start
 part-remove-front-start c = search needs
 
--- src/image.rt:141:18
 part-remove-front-end : tie.Need-part-remove-front-end
 part-remove-front-end c = search needs
 
--- src/image.rt:141:5
 remove-front-requires : tie.Need-remove-front-requires
 remove-front-requires c κs = let p = c .before .before .pre in rw part-bucket (p .0 .sound, p .1, p .2)
 
--- src/image.rt:134:1
 same-length : tie.Need-same-length
 same-length c = search needs
 
--- src/image.rt:134:1
 returns : tie.Need-returns
 unfolding putFront
 returns c =

@@ -1,41 +1,36 @@
-use borrow.Author.Needs.{needs}
+-- `breadcrumb::image::size_of` meets its contract. The size of a length, or that no image has it.
+use Prim.Native.Nat.{_-_, _/_}
 use native.Mathlib.Omega.{arith}
+use borrow.Author.Needs.{needs}
 use Rattle.machine.specs.Images.{lengthOf}
 use Rattle.breadcrumb.proofs.PartLaws.{size-wrong, size-right}
-use Prim.Native.Nat.{_-_, _/_}
 use Rattle.breadcrumb.proofs.image.size_of.Statement.{statement}
 use Rattle.breadcrumb.proofs.image.size_of.Tie as tie
-use Rattle.breadcrumb.proofs.image.size_of.Reads as reads
-use Rattle.breadcrumb.proofs.image.size_of.Lts as lts
 
--- src/image.rt:37:9
 returns : tie.Need-returns
 unfolding lengthOf
 returns c = size-wrong (c .before .args .len) (λ B e p h. omega arith)
 
--- src/image.rt:39:17
 sub-size : tie.Need-sub-size
 sub-size c = search needs
 
--- src/image.rt:41:9
 returns-2 : tie.Need-returns-2
 unfolding lengthOf
 returns-2 c = size-wrong (c .before .before .args .len) (λ B e p h. omega arith)
 
--- src/image.rt:43:15
 mul-if3 : tie.Need-mul-if3
 mul-if3 c = search needs
 
--- src/image.rt:43:15
 add-if3 : tie.Need-add-if3
 add-if3 c = search needs
 
--- src/image.rt:33:1
 returns-3 : tie.Need-returns-3
 unfolding lengthOf
-returns-3 c = let n = c .before .before .before .args .len in size-right n ((n - 448) / 576) (omega arith) (omega arith) (omega arith)
+returns-3 c =
+    let c3 = c .before .before .before in
+    let n = c3 .args .len in
+    size-right n ((n - 448) / 576) (omega arith) (omega arith) (omega arith)
 
--- src/image.rt:33:1
 returns-4 : tie.Need-returns-4
 unfolding lengthOf
 returns-4 c = size-wrong (c .before .before .before .args .len) (λ B e p h. omega arith)

@@ -1,42 +1,38 @@
-use borrow.Author.Needs.{needs}
+-- `breadcrumb::image::swap_front_at` meets its contract. The front bucket is written twice, and is sound after the first write (`front-put`).
 use mathlib.Core.Path.{_∙_}
+use borrow.Author.Needs.{needs}
 use Rattle.multiset.specs.Multisets.{added, removed}
 use Rattle.breadcrumb.specs.Steps.{inFront}
 use Rattle.breadcrumb.proofs.WriteLaws.{list-removed, front-put, inFront-put, putFront-put}
 use Rattle.breadcrumb.proofs.image.swap_front_at.Statement.{statement}
 use Rattle.breadcrumb.proofs.image.swap_front_at.Tie as tie
-use Rattle.breadcrumb.proofs.image.swap_front_at.Reads as reads
-use Rattle.breadcrumb.proofs.image.swap_front_at.Lts as lts
-use Rattle.breadcrumb.proofs.image.insert_front_at.Reads as insert-front-at-reads
-use Rattle.breadcrumb.proofs.image.remove_front_at.Reads as remove-front-at-reads
 
--- src/image.rt:167:5
 remove-front-at-requires : tie.Need-remove-front-at-requires
 remove-front-at-requires c κs = search needs
 
--- src/image.rt:168:5
 insert-front-at-requires : tie.Need-insert-front-at-requires
 insert-front-at-requires c κs =
-    let s = c .before .before .before .before .before .before in
+    let c3 = c .before .before .before in
+    let s = c3 .before .before .before in
     let f = s .args .front .0 in
     let img = s .args .image .now in
     let l = list-removed (s .args .from) (inFront f img) (s .pre .0 .list) (s .pre .1) in
     let zs = removed (s .args .from) (inFront f img) in
-    rw (c .before .before .before .remove-front-at .ensures) (front-put f zs img (s .pre .0 .inside) (l .0), rw (inFront-put f zs img (s .pre .0 .inside) (l .0)) (l .1), s .pre .3)
+    rw (c3 .remove-front-at .ensures)
+    (front-put f zs img (s .pre .0 .inside) (l .0), rw (inFront-put f zs img (s .pre .0 .inside) (l .0)) (l .1), s .pre .3)
 
--- src/image.rt:163:1
 same-length : tie.Need-same-length
 same-length c = search needs
 
--- src/image.rt:163:1
 returns : tie.Need-returns
 returns c =
-    let s = c .before .before .before .before .before .before .before .before .before in
+    let c6 = c .before .before .before .before .before .before in
+    let s = c6 .before .before .before in
     let f = s .args .front .0 in
     let img = s .args .image .now in
     let l = list-removed (s .args .from) (inFront f img) (s .pre .0 .list) (s .pre .1) in
     let zs = removed (s .args .from) (inFront f img) in
-    rw (c .before .before .before .before .before .before .remove-front-at .ensures, inFront-put f zs img (s .pre .0 .inside) (l .0)) at (c .before .before .insert-front-at .ensures)
+    rw (c6 .remove-front-at .ensures, inFront-put f zs img (s .pre .0 .inside) (l .0)) at (c .before .before .insert-front-at .ensures)
     ∙ putFront-put f zs img (s .pre .0 .inside) (l .0) (added (s .args .to) zs)
 
 pub swap-front-at-spec : {M : Type 1} → statement M

@@ -1,114 +1,125 @@
-use borrow.Author.Needs.{needs}
+-- `breadcrumb::insert::overflow_to` meets its contract. The largest in front changes places with the key and leaves, or the key itself goes behind.
 use mathlib.Core.Path.{_≡_, refl, sym, _∙_}
+use Prim.Native.Nat.{_≤_, _<_}
 use native.Mathlib.Omega.{arith}
-use lib.ListN.{length}
+use borrow.Author.Needs.{needs}
 use Rattle.multiset.specs.Multisets.{added, removed, largest}
 use Rattle.crumbmap.specs.Layouts.{layout1}
 use Rattle.machine.specs.Images.{putFront}
-use Rattle.breadcrumb.specs.Steps.{inFront, inBack}
+use Rattle.breadcrumb.specs.Steps.{inFront}
 use Rattle.breadcrumb.proofs.StepLaws.{largest-key}
 use Rattle.breadcrumb.proofs.WriteLaws.{list-swapped, inBack-kept, back-kept, putFront-same}
 use Rattle.breadcrumb.proofs.InsertLaws.{overflowed-swap, overflowed-same}
 use Rattle.breadcrumb.proofs.insert.overflow_to.Statement.{statement}
 use Rattle.breadcrumb.proofs.insert.overflow_to.Tie as tie
-use Rattle.breadcrumb.proofs.insert.overflow_to.Reads as reads
-use Rattle.breadcrumb.proofs.insert.overflow_to.Lts as lts
-use Rattle.breadcrumb.proofs.image.insert_back_at.Reads as insert-back-at-reads
-use Rattle.breadcrumb.proofs.image.largest_front_at.Reads as largest-front-at-reads
-use Rattle.breadcrumb.proofs.image.swap_front_at.Reads as swap-front-at-reads
 
--- src/insert.rt:88:9
 largest-front-at-requires : tie.Need-largest-front-at-requires
 largest-front-at-requires c κs = search needs
 
--- src/insert.rt:90:9
 swap-front-at-requires : tie.Need-swap-front-at-requires
-swap-front-at-requires c κs = let p = c .before .before .before .before .before .before .before .pre in let k = largest-key (p .1) in rw (c .before .before .largest-front-at .ensures) (p .1 .read, k .0, k .1, p .0 .key)
+swap-front-at-requires c κs =
+    let c7 = c .before .before .before .before .before .before .before in
+    let p = c7 .pre in
+    let k = largest-key (p .whole) in rw (c .before .before .largest-front-at .ensures) (p .whole .read, k .0, k .1, p .placed .key)
 
 -- the front bucket after the swap
-swapped : (c : tie.After-swap-front-at) → c .swap-front-at .last .0
-    ≡ putFront layout1 (c .before .before .before .before .before .before .before .before .args .target .front .0) (added (c .before .before .before .before .before .before .before .before .args .target .key) (removed (largest (inFront (c .before .before .before .before .before .before .before .before .args .target .front .0) (c .before .before .before .before .before .before .before .before .args .image .now)))
-    (inFront (c .before .before .before .before .before .before .before .before .args .target .front .0) (c .before .before .before .before .before .before .before .before .args .image .now)))) (c .before .before .before .before .before .before .before .before .args .image .now)
-swapped c = rw (c .before .before .before .largest-front-at .ensures) at (c .swap-front-at .ensures)
+swapped : (c : tie.After-swap-front-at) →
+    let s = c .before .before .before .before .before .before .before .before in
+    let t = s .args .target in
+    c .swap-front-at .last .0 ≡ putFront layout1 (t .front .0)
+    (added (t .key) (removed (largest (inFront (t .front .0) (s .args .image .now))) (inFront (t .front .0) (s .args .image .now))))
+    (s .args .image .now)
+swapped c =
+    let c3 = c .before .before .before in
+    rw (c3 .largest-front-at .ensures) at (c .swap-front-at .ensures)
 
--- src/insert.rt:91:52
 mul-insert-back-at : tie.Need-mul-insert-back-at
-mul-insert-back-at c = omega (arith, c .before .before .before .before .before .before .largest-front-at .ensures, largest-key (c .before .before .before .before .before .before .before .before .before .before .before .pre .1) .1)
+mul-insert-back-at c =
+    let c6 = c .before .before .before .before .before .before in
+    let c11 = c6 .before .before .before .before .before in
+    omega (arith, c6 .largest-front-at .ensures, largest-key (c11 .pre .whole) .1)
 
--- src/insert.rt:91:52
 add-insert-back-at : tie.Need-add-insert-back-at
-add-insert-back-at c = omega (arith, c .before .before .before .before .before .before .largest-front-at .ensures, largest-key (c .before .before .before .before .before .before .before .before .before .before .before .pre .1) .1, c .before .before .before .before .before .before .before .before .before .before .before .pre .4)
+add-insert-back-at c =
+    let c6 = c .before .before .before .before .before .before in
+    let c11 = c6 .before .before .before .before .before in
+    omega (arith, c6 .largest-front-at .ensures, largest-key (c11 .pre .whole) .1, c11 .pre .crumb)
 
--- src/insert.rt:91:9
 insert-back-at-requires : tie.Need-insert-back-at-requires
 insert-back-at-requires c κs =
-    let s = c .before .before .before .before .before .before .before .before .before .before .before in
+    let c3 = c .before .before .before in
+    let c6 = c3 .before .before .before in
+    let s = c6 .before .before .before .before .before in
     let t = s .args .target in
     let img = s .args .image .now in
     let xs = inFront (t .front .0) img in
-    let k = largest-key (s .pre .1) in
-    let l = list-swapped (largest xs) (t .key) xs (s .pre .1 .read .list) (k .0) (s .pre .0 .key) in
+    let k = largest-key (s .pre .whole) in
+    let l = list-swapped (largest xs) (t .key) xs (s .pre .whole .read .list) (k .0) (s .pre .placed .key) in
     let zs = added (t .key) (removed (largest xs) xs) in
-    rw (swapped (c .before .before .before), c .before .before .before .before .before .before .largest-front-at .ensures) (
-      back-kept (t .front .0) zs img (s .pre .1 .read .inside) l (t .size) (s .args .way .bucket .0) (s .pre .0 .within .front) (s .pre .2),
-      rw (inBack-kept (t .front .0) zs img (s .pre .1 .read .inside) l (t .size) (s .args .way .bucket .0) (s .pre .0 .within .front)) (s .pre .3),
-      omega (arith, k .1, s .pre .4),
+    rw (swapped c3, c6 .largest-front-at .ensures) (
+      back-kept (t .front .0) zs img (s .pre .whole .read .inside) l (t .size) (s .args .way .bucket .0) (s .pre .placed .within .front) (s .pre .back),
+      rw (inBack-kept (t .front .0) zs img (s .pre .whole .read .inside) l (t .size) (s .args .way .bucket .0) (s .pre .placed .within .front)) (s .pre .room),
+      omega (arith, k .1, s .pre .crumb),
     )
 
--- src/insert.rt:92:16
 add-result : tie.Need-add-result
 add-result c = search needs
 
--- src/insert.rt:92:9
 same-length : tie.Need-same-length
 same-length c = search needs
 
--- src/insert.rt:92:9
 returns : tie.Need-returns
 returns c =
-    let s = c .before .before .before .before .before .before .before .before .before .before .before .before .before .before .before in
+    let c3 = c .before .before .before in
+    let c7 = c3 .before .before .before .before in
+    let c9 = c7 .before .before in
+    let c10 = c9 .before in
+    let s = c10 .before .before .before .before .before in
     let t = s .args .target in
     let img = s .args .image .now in
     let xs = inFront (t .front .0) img in
-    let k = largest-key (s .pre .1) in
-    let l = list-swapped (largest xs) (t .key) xs (s .pre .1 .read .list) (k .0) (s .pre .0 .key) in
-    let zs = added (t .key) (removed (largest xs) xs) in (
+    let k = largest-key (s .pre .whole) in
+    let l = list-swapped (largest xs) (t .key) xs (s .pre .whole .read .list) (k .0) (s .pre .placed .key) in
+    let zs = added (t .key) (removed (largest xs) xs) in
+    let h : t .key < largest xs = omega (arith, c9 .if1 .taken, c10 .largest-front-at .ensures) in
+    let o = overflowed-swap (t .size) (t .front .0) (t .key) (s .args .way) img (s .pre .whole .read) h (omega (arith, s .pre .whole .full)) in (
       refl,
-      rw (swapped (c .before .before .before .before .before .before .before), c .before .before .before .before .before .before .before .before .before .before .largest-front-at .ensures, inBack-kept (t .front .0) zs img (s .pre .1 .read .inside) l (t .size) (s .args .way .bucket .0) (s .pre .0 .within .front))
-          at (c .before .before .before .insert-back-at .ensures)
-          ∙ sym (overflowed-swap (t .size) (t .front .0) (t .key) (s .args .way) img (s .pre .1 .read) (omega (arith, c .before .before .before .before .before .before .before .before .before .if1 .taken, c .before .before .before .before .before .before .before .before .before .before .largest-front-at .ensures)) (omega (arith, s .pre .1 .full))),
+      rw (
+        swapped c7,
+        c10 .largest-front-at .ensures,
+        inBack-kept (t .front .0) zs img (s .pre .whole .read .inside) l (t .size) (s .args .way .bucket .0) (s .pre .placed .within .front),
+      )
+          at (c3 .insert-back-at .ensures)
+          ∙ sym o,
     )
 
--- src/insert.rt:94:48
 mul-insert-back-at-2 : tie.Need-mul-insert-back-at-2
 mul-insert-back-at-2 c = search needs
 
--- src/insert.rt:94:48
 add-insert-back-at-2 : tie.Need-add-insert-back-at-2
 add-insert-back-at-2 c = search needs
 
--- src/insert.rt:94:5
 insert-back-at-requires-2 : tie.Need-insert-back-at-requires-2
 insert-back-at-requires-2 c κs = search needs
 
--- src/insert.rt:95:5
 add-result-2 : tie.Need-add-result-2
 add-result-2 c = search needs
 
--- src/insert.rt:78:1
 same-length-2 : tie.Need-same-length-2
 same-length-2 c = search needs
 
--- src/insert.rt:78:1
 returns-2 : tie.Need-returns-2
 returns-2 c =
-    let s = c .before .before .before .before .before .before .before .before .before .before .before in
+    let c3 = c .before .before .before in
+    let c5 = c3 .before .before in
+    let c6 = c5 .before in
+    let s = c6 .before .before .before .before .before in
     let t = s .args .target in
     let img = s .args .image .now in
-    let xs = inFront (t .front .0) img in (
+    let h : largest (inFront (t .front .0) img) ≤ t .key = omega (arith, c5 .if1 .left, c6 .largest-front-at .ensures) in
+    let o = overflowed-same (t .size) (t .front .0) (t .key) (s .args .way) img (s .pre .whole .read) h (putFront-same (s .pre .whole .read)) in (
       refl,
-      c .before .before .before .insert-back-at2 .ensures
-          ∙ sym (overflowed-same (t .size) (t .front .0) (t .key) (s .args .way) img (s .pre .1 .read) (omega (arith, c .before .before .before .before .before .if1 .left, c .before .before .before .before .before .before .largest-front-at .ensures)) (putFront-same (s .pre .1 .read))),
+      c3 .insert-back-at2 .ensures ∙ sym o,
     )
 
 pub overflow-to-spec : {M : Type 1} → statement M

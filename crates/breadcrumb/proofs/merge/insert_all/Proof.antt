@@ -39,7 +39,7 @@ insert-at-requires c κs =
     let l = i .before .loop in
     let g = sizeOf-some (length (l .target)) (s .args .size) (l .inv .2 .size) in
     record {
-      within = record { long = g .0; small = g .2; front = s .pre .1 };
+      within = record { whole = record { long = g .0; small = g .2 }; front = s .pre .1 };
       key = key-low (s .args .size) (s .args .front .0) (l .i) (s .args .keys .now) (l .target) (s .pre .1) (l .inv .2) (s .pre .2) (more i);
     }
 

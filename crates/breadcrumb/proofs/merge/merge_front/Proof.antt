@@ -3,7 +3,7 @@ use mathlib.Core.Path.{_≡_, sym, _∙_}
 use mathlib.Core.Bool.{true}
 use native.Mathlib.Omega.{arith}
 use Rattle.crumbmap.specs.Layouts.{layout1}
-use Rattle.minifilter.proofs.FindLaws.{fits1}
+use Rattle.minifilter.proofs.BucketLaws.{fits1}
 use Rattle.machine.specs.Merges.{insertAll}
 use Rattle.breadcrumb.specs.Listings.{membersIn}
 use Rattle.breadcrumb.specs.Passes.{AllRead, bothInserted}

@@ -7,7 +7,7 @@ use native.Mathlib.Omega.{arith}
 use lib.ListN.{length, getD}
 use borrow.Author.Tests.{not-true, not-false}
 use Rattle.crumbmap.specs.Layouts.{layout1, fronts}
-use Rattle.minifilter.proofs.FindLaws.{fits1}
+use Rattle.minifilter.proofs.BucketLaws.{fits1}
 use Rattle.machine.specs.Results.{andThen}
 use Rattle.machine.specs.Merges.{mergeFrom}
 use Rattle.breadcrumb.specs.Listings.{MembersRead}

@@ -2,7 +2,7 @@
 use mathlib.Core.Path.{_≡_, sym, _∙_}
 use mathlib.Core.Bool.{true}
 use Rattle.crumbmap.specs.Layouts.{layout1}
-use Rattle.minifilter.proofs.FindLaws.{fits1}
+use Rattle.minifilter.proofs.BucketLaws.{fits1}
 use Rattle.machine.specs.Results.{andThen}
 use Rattle.machine.specs.Images.{put}
 use Rattle.machine.specs.Merges.{insertAll}

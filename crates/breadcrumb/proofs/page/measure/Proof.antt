@@ -33,7 +33,7 @@ mul-loop c = omega (arith, c .before .before .pre .0 .small)
 
 count-members-requires : tie.Need-count-members-requires Inv-loop μ-loop
 unfolding fronts
-count-members-requires c κs = let s = c .before .before .before .pre .0 in record { long = s .long; small = s .small; front = omega arith }
+count-members-requires c κs = let s = c .before .before .before .pre .0 in record { whole = s; front = omega arith }
 
 enum-known-table : tie.Need-enum-known-table Inv-loop μ-loop
 enum-known-table c = search needs
