@@ -13,7 +13,7 @@ use lib.Pow.{field, mod-mod-pow, shr-shr}
 use lib.Count.{ones, onesIn, trailingZeros, ones-step, ones-le}
 use Rattle.multiset.specs.Multisets.{below}
 use Rattle.multiset.specs.Digits.{value}
-use Rattle.minifilter.specs.Select.{above, selectIn}
+use Rattle.minifilter.specs.Select.{above, selectIn, listed, pairs}
 use Rattle.minifilter.specs.Readings.{minisOf}
 use Rattle.multiset.proofs.MultisetLaws.{below-le-length}
 use Rattle.minifilter.proofs.WordLaws.{Coded, done, member, end, coded-run, shr-suc, below-run, below-cons-lt, coded-minisOf}
@@ -94,11 +94,6 @@ select-le (suc d) w r = above-le (w % 2) r d (selectIn d (w / 2)) (λ s. select-
 
 -- ---- a table as a list that is computed
 
--- f from, f (from + 1), .., n of them
-abbrev pub listed : (ℕ → ℕ) → ℕ → ℕ → List ℕ
-listed f from zero = []
-listed f from (suc n) = f from ∷ listed f (suc from) n
-
 pub listed-at : (f : ℕ → ℕ) (from n k : ℕ) → k < n → getD (listed f from n) k 0 ≡ f (from + k)
 listed-at f from zero k h = absurd (omega arith)
 listed-at f from (suc n) zero h = rw (add-zero from)
@@ -115,15 +110,18 @@ listed-digit f from (suc n) (suc k) l h =
     let q : (f from + 16 * v) / 16 ≡ v = omega (arith, l from) in
     rw (add-suc from k, e, ← shr-shr (f from + 16 * v) 4 (4 * k), q) (rw (suc-add from k) at (listed-digit f (suc from) n k l (omega arith)))
 
--- a byte value's eight entries, as one number
-abbrev pub entries : ℕ → ℕ
-entries byte = value 16 (listed (selectIn 8 byte) 0 8)
-
--- the table of n byte values, read at one
-pub listed-entry : (n byte rank : ℕ) → byte < n → rank < 8 → getD (listed entries 0 n) byte 0 / 2 ^ (4 * rank) % 16 ≡ selectIn 8 byte rank
-listed-entry n byte rank h l =
-    rw (listed-at entries 0 n byte h, zero-add byte)
-    (listed-digit (selectIn 8 byte) 0 8 rank (λ i. omega (arith, select-le 8 byte i)) l ∙ ap (selectIn 8 byte) (zero-add rank))
+-- the table, read at a byte value's row, number and digit
+pub listed-entry : (byte rank : ℕ) → rank < 8
+    → getD (listed pairs (8 * (byte / 16)) 8) (byte / 2 % 8) 0 / 2 ^ (4 * (byte % 2 * 8 + rank)) % 16 ≡ selectIn 8 byte rank
+listed-entry byte rank l =
+    let i = byte % 2 * 8 + rank in
+    let k : 8 * (byte / 16) + byte / 2 % 8 ≡ byte / 2 = omega arith in
+    let b : 2 * (byte / 2) + i / 8 ≡ byte = omega arith in
+    let r : i % 8 ≡ rank = omega arith in
+    let f : ℕ → ℕ = λ j. selectIn 8 (2 * (byte / 2) + j / 8) (j % 8) in
+    rw (listed-at pairs (8 * (byte / 16)) 8 (byte / 2 % 8) (omega arith), k)
+    (listed-digit f 0 16 i (λ j. omega (arith, select-le 8 (2 * (byte / 2) + j / 8) (j % 8))) (omega arith)
+    ∙ rw (zero-add i, b, r))
 
 -- ---- in a bucket's word
 

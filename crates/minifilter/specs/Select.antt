@@ -1,6 +1,8 @@
 -- Select: the place of the one bit of a rank. "A table gives the place of the one bit of each rank 0 to 7 in every byte value, 8 where none:
 -- 2,048 entries": the entry of byte value w and rank r is `selectIn 8 w r`.
-use Prim.Native.Nat.{ℕ, zero, suc, _/_, _%_}
+use Prim.Native.Nat.{ℕ, zero, suc, _+_, _*_, _/_, _%_}
+use mathlib.Core.List.{List, [], _∷_}
+use Rattle.multiset.specs.Digits.{value}
 
 -- one place further on, in a word whose lowest bit is b: rank 0 stands here where b is one
 abbrev pub above : ℕ → ℕ → (ℕ → ℕ) → ℕ
@@ -12,3 +14,12 @@ above (suc b) (suc r) rest = suc (rest r)
 unfoldable pub selectIn : ℕ → ℕ → ℕ → ℕ
 selectIn zero w r = zero
 selectIn (suc d) w r = above (w % 2) r (selectIn d (w / 2))
+
+-- f from, f (from + 1), .., n of them
+abbrev pub listed : (ℕ → ℕ) → ℕ → ℕ → List ℕ
+listed f from zero = []
+listed f from (suc n) = f from ∷ listed f (suc from) n
+
+-- number k of the table: the eight entries of byte value 2k, then those of 2k + 1, as hex digits, the lowest first
+abbrev pub pairs : ℕ → ℕ
+pairs k = value 16 (listed (λ (i : ℕ). selectIn 8 (2 * k + i / 8) (i % 8)) 0 16)

@@ -1,27 +1,55 @@
--- `minifilter::select::at_rank` meets its contract. The table is the list that the rule of its entries gives: antt computes it, all 2,048 entries.
+-- `minifilter::select::at_rank` meets its contract: the table is the list that the rule of its entries gives (`row`), read at one entry.
 use native.Mathlib.Omega.{arith}
 use borrow.Author.Needs.{needs}
-use Rattle.multiset.specs.Digits.{value}
-use Rattle.minifilter.specs.Select.{selectIn}
 use Rattle.minifilter.proofs.SelectLaws.{listed-entry}
 use Rattle.minifilter.proofs.select.at_rank.Statement.{statement}
 use Rattle.minifilter.proofs.select.at_rank.Tie as tie
 
-mul-row : tie.Need-mul-row
-mul-row c = search needs
+row-requires : tie.Need-row-requires
+row-requires c κs = search needs
 
-array-read-row : tie.Need-array-read-row
-array-read-row c = search needs
+cast-two : tie.Need-cast-two
+cast-two c = search needs
+
+mul-two : tie.Need-mul-two
+mul-two c = search needs
+
+array-read-two : tie.Need-array-read-two
+array-read-two c = search needs
 
 mul-result : tie.Need-mul-result
 mul-result c = search needs
 
+add-result : tie.Need-add-result
+add-result c = search needs
+
+mul-result-2 : tie.Need-mul-result-2
+mul-result-2 c = search needs
+
+cast-result : tie.Need-cast-result
+cast-result c = search needs
+
 shr-result : tie.Need-shr-result
 shr-result c = search needs
 
+cast-result-2 : tie.Need-cast-result-2
+cast-result-2 c = search needs
+
 returns : tie.Need-returns
-unfolding value selectIn
-returns c = listed-entry 256 (c .args .byte) (c .args .rank) (omega arith) (c .pre)
+returns c = let a = c .before .args in rw (c .row .ensures) (listed-entry (a .byte) (a .rank) (c .before .pre))
 
 pub at-rank-spec : {M : Type 1} → statement M
-at-rank-spec = tie.close (tie.spec mul-row array-read-row mul-result shr-result returns)
+at-rank-spec =
+    tie.close
+    (tie.spec
+    row-requires
+    cast-two
+    mul-two
+    array-read-two
+    mul-result
+    add-result
+    mul-result-2
+    cast-result
+    shr-result
+    cast-result-2
+    returns)
