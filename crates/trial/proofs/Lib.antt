@@ -1,1 +1,2 @@
+-- Laws of the checksum.
 pub mod ChecksumLaws

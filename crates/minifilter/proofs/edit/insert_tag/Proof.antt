@@ -9,8 +9,6 @@ use Rattle.minifilter.specs.Edits.{inserted}
 use Rattle.minifilter.proofs.ShiftLaws.{tag-digits, tag-in-start, tag-in-on, all-done}
 use Rattle.minifilter.proofs.edit.insert_tag.Statement.{statement}
 use Rattle.minifilter.proofs.edit.insert_tag.Tie as tie
-use Rattle.minifilter.proofs.edit.insert_tag.Reads as reads
-use Rattle.minifilter.proofs.edit.insert_tag.Lts as lts
 
 abbrev Inv-loop : tie.InvT-loop
 Inv-loop s₀ slot tag low₀ high₀ i₀ s low high i =

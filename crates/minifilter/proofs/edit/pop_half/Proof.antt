@@ -9,8 +9,6 @@ use Rattle.minifilter.specs.Edits.{halfPopped}
 use Rattle.minifilter.proofs.ShiftLaws.{half-out-on, half-out-end}
 use Rattle.minifilter.proofs.edit.pop_half.Statement.{statement}
 use Rattle.minifilter.proofs.edit.pop_half.Tie as tie
-use Rattle.minifilter.proofs.edit.pop_half.Reads as reads
-use Rattle.minifilter.proofs.edit.pop_half.Lts as lts
 
 abbrev Inv-loop : tie.InvT-loop
 Inv-loop s₀ from last i₀ s i =

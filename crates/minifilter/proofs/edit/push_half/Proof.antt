@@ -9,8 +9,6 @@ use Rattle.minifilter.specs.Edits.{halfPushed}
 use Rattle.minifilter.proofs.ShiftLaws.{half-in-on, halves-done}
 use Rattle.minifilter.proofs.edit.push_half.Statement.{statement}
 use Rattle.minifilter.proofs.edit.push_half.Tie as tie
-use Rattle.minifilter.proofs.edit.push_half.Reads as reads
-use Rattle.minifilter.proofs.edit.push_half.Lts as lts
 
 abbrev Inv-loop : tie.InvT-loop
 Inv-loop s₀ from half carry₀ i₀ s carry i =

@@ -8,8 +8,6 @@ use Rattle.minifilter.specs.Edits.{takenOut}
 use Rattle.minifilter.proofs.ShiftLaws.{tag-out-on, tag-out-end}
 use Rattle.minifilter.proofs.edit.remove_tag.Statement.{statement}
 use Rattle.minifilter.proofs.edit.remove_tag.Tie as tie
-use Rattle.minifilter.proofs.edit.remove_tag.Reads as reads
-use Rattle.minifilter.proofs.edit.remove_tag.Lts as lts
 
 abbrev Inv-loop : tie.InvT-loop
 Inv-loop s₀ slot last i₀ s i =

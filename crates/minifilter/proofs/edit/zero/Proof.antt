@@ -8,8 +8,6 @@ use lib.Seq.{drop-length}
 use borrow.Author.Fill.{fill-more}
 use Rattle.minifilter.proofs.edit.zero.Statement.{statement}
 use Rattle.minifilter.proofs.edit.zero.Tie as tie
-use Rattle.minifilter.proofs.edit.zero.Reads as reads
-use Rattle.minifilter.proofs.edit.zero.Lts as lts
 
 abbrev Inv-loop : tie.InvT-loop
 Inv-loop s₀ i₀ s i =

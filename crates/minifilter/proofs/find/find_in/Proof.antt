@@ -14,11 +14,6 @@ use Rattle.minifilter.proofs.ElementLaws.{below-bytes}
 use Rattle.minifilter.proofs.FindLaws.{Held, sound-long, span-le, held, found-in}
 use Rattle.minifilter.proofs.find.find_in.Statement.{statement}
 use Rattle.minifilter.proofs.find.find_in.Tie as tie
-use Rattle.minifilter.proofs.find.find_in.Reads as reads
-use Rattle.minifilter.proofs.find.find_in.Lts as lts
-use Rattle.minifilter.proofs.find.scan.Reads as scan-reads
-use Rattle.minifilter.proofs.word.bounds.Reads as bounds-reads
-use Rattle.minifilter.proofs.word.word_of.Reads as word-of-reads
 
 known : (c : tie.After-shared-slice-known)
     → let a = c .before .args in Held (a .crumbs) (a .b .now) (membersOf (a .crumbs) (a .b .now))
