@@ -1,6 +1,7 @@
 -- Laws of words, of select, of a bucket's bytes and members, of the reader, of search and of edits.
 pub mod WordLaws
 pub mod SelectLaws
+pub mod TallyLaws
 pub mod SlotBytes
 pub mod BucketLaws
 pub mod ElementLaws

@@ -1,7 +1,10 @@
 -- Select: the place of the one bit of a rank. "A table gives the place of the one bit of each rank 0 to 7 in every byte value, 8 where none:
 -- 2,048 entries": the entry of byte value w and rank r is `selectIn 8 w r`.
-use Prim.Native.Nat.{ℕ, zero, suc, _+_, _*_, _/_, _%_}
+use mathlib.Core.Path.{_≡_}
+use mathlib.Core.Logic.{_⊎_}
+use Prim.Native.Nat.{ℕ, zero, suc, _+_, _*_, _/_, _%_, _^_, _≤_, _<_}
 use mathlib.Core.List.{List, [], _∷_}
+use lib.Count.{onesIn}
 use Rattle.multiset.specs.Digits.{value}
 
 -- one place further on, in a word whose lowest bit is b: rank 0 stands here where b is one
@@ -23,3 +26,16 @@ listed f from (suc n) = f from ∷ listed f (suc from) n
 -- number k of the table: the eight entries of byte value 2k, then those of 2k + 1, as hex digits, the lowest first
 abbrev pub pairs : ℕ → ℕ
 pairs k = value 16 (listed (λ (i : ℕ). selectIn 8 (2 * k + i / 8) (i % 8)) 0 16)
+
+-- f of each of the n lowest bytes of w, in that byte
+abbrev pub bytewise : (ℕ → ℕ) → ℕ → ℕ → ℕ
+bytewise f zero w = 0
+bytewise f (suc n) w = f (w % 256) + 256 * bytewise f n (w / 256)
+
+-- byte j of s is the number of ones of w below its byte j
+abbrev pub Sums : ℕ → ℕ → Type 0
+Sums w s = (j : ℕ) → j < 8 → s / 2 ^ (8 * j) % 256 ≡ onesIn (8 * j) w
+
+-- a step of `width` bits is taken where the rank is at least `sum`
+abbrev pub Stepped : ℕ → ℕ → ℕ → ℕ → ℕ → Type 0
+Stepped sum rank place width r = ((sum ≤ rank) × (r ≡ place + width)) ⊎ ((rank < sum) × (r ≡ place))

@@ -1,8 +1,9 @@
 // Select: the place of the one bit of a rank in a 64-bit word, by a table over byte values.
 
 ghost use mathlib.Core.Path.{_≡_};
-ghost use Prim.Native.Nat.{_*_, _<_};
-ghost use Rattle.minifilter.specs.Select.{selectIn, listed, pairs};
+ghost use Prim.Native.Nat.{_+_, _*_, _/_, _%_, _^_, _<_};
+ghost use lib.Count.{ones};
+ghost use Rattle.minifilter.specs.Select.{selectIn, listed, pairs, bytewise, Sums, Stepped};
 
 // "The place of the one bit of each rank 0 to 7 in every byte value, 8 where none: 2,048 entries", of four bits each:
 // the entry of a rank is the hex digit of that place, from the lowest, in the eight digits of the byte value. A number has two
@@ -218,22 +219,49 @@ pub fn at_rank(byte: u8, rank: u32) -> u32
     ((two >> (4 * (value % 2 * 8 + rank))) % 16) as u32
 }
 
-// The place of the one bit of rank `rank`, 64 where there is none: byte by byte, with one read of the table at the byte found.
+// The ones of each byte, in that byte: bits are added up in pairs, then in fours, then in bytes.
+fn tally(word: u64) -> u64
+    ensures { λ r. ⌜ r ≡ bytewise ones 8 word ⌝ }
+{
+    let pairs = (word & 0x5555555555555555) + ((word & 0xaaaaaaaaaaaaaaaa) >> 1);
+    let fours = (pairs & 0x3333333333333333) + ((pairs & 0xcccccccccccccccc) >> 2);
+    (fours & 0x0f0f0f0f0f0f0f0f) + ((fours & 0xf0f0f0f0f0f0f0f0) >> 4)
+}
+
+// In each byte, the ones of all bytes below it.
+fn sums(word: u64) -> u64
+    ensures { λ r. ⌜ Sums word r ⌝ }
+{
+    let each = tally(word);
+    let twos = each + (each << 8);
+    let fours = twos + (twos << 16);
+    let eights = fours + (fours << 32);
+    eights << 8
+}
+
+// From byte `place` on to the one `width` bits further, if the rank is not below it.
+fn step(sums: u64, rank: u32, place: u32, width: u32) -> u32
+    requires { ⌜ place + width < 64 ⌝ }
+    ensures { λ r. ⌜ Stepped (sums / 2 ^ (place + width) % 256) rank place width r ⌝ }
+{
+    let further = place + width;
+    if (sums >> further) % 256 <= (rank as u64) {
+        return further;
+    }
+    place
+}
+
+// The place of the one bit of rank `rank`, 64 where there is none: three steps to its byte, and one read of the table.
 pub fn select(word: u64, rank: u32) -> u32
     ensures { λ r. ⌜ r ≡ selectIn 64 word rank ⌝ }
 {
-    let mut rest = word;
-    let mut left = rank;
-    let mut place: u32 = 0;
-    while place < 64 {
-        let byte = rest % 256;
-        let ones = u64::count_ones(byte);
-        if left < ones {
-            return place + at_rank(byte as u8, left);
-        }
-        left -= ones;
-        rest /= 256;
-        place += 8;
+    let sums = sums(word);
+    let half = step(sums, rank, 0, 32);
+    let quarter = step(sums, rank, half, 16);
+    let place = step(sums, rank, quarter, 8);
+    let left = rank - (((sums >> place) % 256) as u32);
+    if 8 <= left {
+        return 64;
     }
-    place
+    place + at_rank(((word >> place) % 256) as u8, left)
 }

@@ -1,48 +1,120 @@
--- `minifilter::select::select` meets its contract. The loop's invariant: the place sought is that of rank `left` in `rest`, `place` bits further on.
--- The measure is what is left of the 64 bits.
-use mathlib.Core.Path.{_≡_}
-use Prim.Native.Nat.{_+_, _-_, _%_, _^_, _≤_, _<_}
+-- `minifilter::select::select` meets its contract: three steps lead to the byte of the rank, or to the last (`near3`).
+use mathlib.Core.Path.{_≡_, refl, sym, ap, _∙_}
+use Prim.Native.Nat.{ℕ, _+_, _-_, _%_, _/_, _^_}
 use native.Mathlib.Omega.{arith}
+use borrow.Author.Needs.{needs}
+use lib.Count.{onesIn}
+use lib.Dec.{lit<}
 use Rattle.minifilter.specs.Select.{selectIn}
-use Rattle.minifilter.proofs.SelectLaws.{select-byte-hit, select-byte-pass, select-le, ones-byte}
+use Rattle.minifilter.proofs.SelectLaws.{select-le}
+use Rattle.minifilter.proofs.TallyLaws.{Near, near-all, near-step, sums-at, select-near, select-none}
 use Rattle.minifilter.proofs.select.select.Statement.{statement}
 use Rattle.minifilter.proofs.select.select.Tie as tie
 
-abbrev Inv-loop : tie.InvT-loop
-Inv-loop word rank rest₀ left₀ place₀ rest left place =
-    (place ≤ 64) × (place % 8 ≡ 0) × (rest < 2 ^ 64) × (selectIn 64 word rank ≡ place + selectIn (64 - place) rest left)
+near1 : (c : tie.After-step) → let a = c .before .before .args in Near (a .word) (a .rank) (c .step .result) 32
+near1 c =
+    let a = c .before .before .args in
+    near-step (a .word) (c .before .sums .result) (a .rank) 0 32 (c .step .result) (c .before .sums .ensures) refl (lit< tt)
+    (near-all (a .word) (a .rank)) (c .step .ensures)
 
-abbrev μ-loop : tie.MeasureT-loop
-μ-loop word rank rest₀ left₀ place₀ rest left place = 64 - place
+near2 : (c : tie.After-step2) → let a = c .before .before .before .args in Near (a .word) (a .rank) (c .step2 .result) 16
+near2 c =
+    let s = c .before .before in
+    let a = s .before .args in
+    near-step (a .word) (s .sums .result) (a .rank) (c .before .step .result) 16 (c .step2 .result) (s .sums .ensures) refl (lit< tt)
+    (near1 (c .before)) (c .step2 .ensures)
 
-loop-holds : tie.Need-loop-holds Inv-loop μ-loop
-loop-holds c = omega arith
+near3 : (c : tie.After-step3) → let a = c .before .before .before .before .args in Near (a .word) (a .rank) (c .step3 .result) 8
+near3 c =
+    let s = c .before .before .before in
+    let a = s .before .args in
+    near-step (a .word) (s .sums .result) (a .rank) (c .before .step2 .result) 8 (c .step3 .result) (s .sums .ensures) refl (lit< tt)
+    (near2 (c .before)) (c .step3 .ensures)
 
-cast-at-rank : tie.Need-cast-at-rank Inv-loop μ-loop
-cast-at-rank c = omega arith
+-- the ones passed by
+passed : (c : tie.After-step3) → let s = c .before .before .before in
+    s .sums .result / 2 ^ c .step3 .result % 256 ≡ onesIn (c .step3 .result) (s .before .args .word)
+passed c =
+    let s = c .before .before .before in
+    sums-at (s .before .args .word) (s .sums .result) (c .step3 .result) (s .sums .ensures) (near3 c .whole) (omega (arith, near3 c .room))
 
-at-rank-requires : tie.Need-at-rank-requires Inv-loop μ-loop
-at-rank-requires c κs = omega (arith, ones-byte (c .before .before .loop .rest))
+-- the byte found, and the rank in it
+abbrev byte : (c : tie.After-step3) → ℕ
+byte c = c .before .before .before .before .args .word / 2 ^ c .step3 .result % 256
 
-add-result : tie.Need-add-result Inv-loop μ-loop
-add-result c = let s = c .before .before .before .loop in omega (arith, select-le 8 (s .rest % 256) (s .left))
+abbrev left : (c : tie.After-step3) → ℕ
+left c = let a = c .before .before .before .before .args in a .rank - onesIn (c .step3 .result) (a .word)
 
-returns : tie.Need-returns Inv-loop μ-loop
-returns c = let s = c .before .before .before .loop in omega (arith, select-byte-hit (s .place) (s .rest) (s .left) (omega arith) (omega arith) (omega arith))
+found : (c : tie.After-at-rank) → c .at-rank .result ≡ selectIn 8 (byte (c .before .before)) (left (c .before .before))
+found c = let at = c .before .before in rw (passed at) at (c .at-rank .ensures)
 
-add-place : tie.Need-add-place Inv-loop μ-loop
-add-place c = omega arith
+sums-requires : tie.Need-sums-requires
+sums-requires c κs = search needs
 
-loop-less : tie.Need-loop-less Inv-loop μ-loop
-loop-less c = omega arith
+step-requires : tie.Need-step-requires
+step-requires c κs = search needs
 
-loop-again : tie.Need-loop-again Inv-loop μ-loop
-loop-again c = let s = c .before .before .loop in omega (arith, select-byte-pass (s .place) (s .rest) (s .left) (omega arith) (omega arith) (omega arith))
+step-requires-2 : tie.Need-step-requires-2
+step-requires-2 c κs = omega (arith, near1 c .room)
 
-returns-2 : tie.Need-returns-2 Inv-loop μ-loop
-returns-2 c = let s = c .before .loop in omega (arith, select-le (64 - s .place) (s .rest) (s .left))
+step-requires-3 : tie.Need-step-requires-3
+step-requires-3 c κs = omega (arith, near2 c .room)
+
+cast-left : tie.Need-cast-left
+cast-left c = search needs
+
+shr-left : tie.Need-shr-left
+shr-left c = omega (arith, near3 c .room)
+
+cast-left-2 : tie.Need-cast-left-2
+cast-left-2 c = search needs
+
+sub-left : tie.Need-sub-left
+sub-left c = rw (passed c) (near3 c .passed)
+
+returns : tie.Need-returns
+returns c =
+    let at = c .before in
+    let a = at .before .before .before .before .args in
+    sym (select-none (a .word) (a .rank) (at .step3 .result) (near3 at) (rw (passed at) at (c .if1 .taken)))
+
+cast-at-rank : tie.Need-cast-at-rank
+cast-at-rank c = search needs
+
+shr-at-rank : tie.Need-shr-at-rank
+shr-at-rank c = omega (arith, near3 (c .before) .room)
+
+cast-at-rank-2 : tie.Need-cast-at-rank-2
+cast-at-rank-2 c = search needs
+
+at-rank-requires : tie.Need-at-rank-requires
+at-rank-requires c κs = search needs
+
+add-result : tie.Need-add-result
+add-result c = omega (arith, found c, select-le 8 (byte (c .before .before)) (left (c .before .before)), near3 (c .before .before) .room)
+
+returns-2 : tie.Need-returns-2
+returns-2 c =
+    let at = c .before .before in
+    let a = at .before .before .before .before .args in
+    ap (λ (x : ℕ). at .step3 .result + x) (found c) ∙ sym (select-near (a .word) (a .rank) (at .step3 .result) (near3 at))
 
 pub select-spec : {M : Type 1} → statement M
 select-spec =
     tie.close
-    (tie.spec Inv-loop μ-loop loop-holds cast-at-rank at-rank-requires add-result returns add-place loop-less loop-again returns-2)
+    (tie.spec
+    sums-requires
+    step-requires
+    step-requires-2
+    step-requires-3
+    cast-left
+    shr-left
+    cast-left-2
+    sub-left
+    returns
+    cast-at-rank
+    shr-at-rank
+    cast-at-rank-2
+    at-rank-requires
+    add-result
+    returns-2)
