@@ -4,7 +4,7 @@
 use mathlib.Core.Path.{_≡_, refl, sym, ap, _∙_}
 use mathlib.Core.Logic.{⊎-elim}
 use Prim.Native.Nat.{ℕ, zero, suc, _+_, _-_, _*_, _/_, _%_, _^_, _≤_, _<_}
-use mathlib.Core.List.{List, [], _∷_}
+use mathlib.Core.List.{List, _∷_}
 use native.Mathlib.Nat.{zero-add, add-zero, add-suc, suc-add, sub-zero, eq-or-lt-of-le}
 use native.Mathlib.Numerals.{add-one}
 use native.Mathlib.Omega.{arith}
@@ -74,18 +74,11 @@ ones-low (suc k) w = ones-step (w % 2 ^ suc k) ∙ rw (half-low k w, odd-low k w
 pub ones-byte : (w : ℕ) → ones (w % 256) ≤ 8
 ones-byte w = ones-le 8 (w % 256) (omega arith)
 
--- the byte at a place that is a multiple of 8: the rank stands in it, or behind it
+-- the byte at a place that is a multiple of 8: the rank stands in it
 pub select-byte-hit : (place w r : ℕ) → place < 64 → place % 8 ≡ 0 → r < ones (w % 256) → selectIn (64 - place) w r ≡ selectIn 8 (w % 256) r
 select-byte-hit place w r l z h =
     let d : 64 - place ≡ 8 + (56 - place) = omega arith in
     rw d (select-hit 8 (56 - place) w r (rw (ones-low 8 w) at h) ∙ sym (select-low 8 w r))
-
-pub select-byte-pass : (place w r : ℕ) → place < 64 → place % 8 ≡ 0 → ones (w % 256) ≤ r
-    → selectIn (64 - place) w r ≡ 8 + selectIn (64 - (place + 8)) (w / 256) (r - ones (w % 256))
-select-byte-pass place w r l z h =
-    let d : 64 - place ≡ 8 + (56 - place) = omega arith in
-    let e : 64 - (place + 8) ≡ 56 - place = omega arith in
-    rw (d, e, ones-low 8 w) (select-pass 8 (56 - place) w r (rw (ones-low 8 w) at h))
 
 pub select-le : (d w r : ℕ) → selectIn d w r ≤ d
 unfolding selectIn

@@ -1,15 +1,16 @@
--- The ones of a word's bytes, all at once: what is done to each byte apart (`tally-stage`), and the sums of the bytes below each (`sums-bytes`).
--- Three steps by these sums lead to the byte of a rank (`step-at`, `select-at`, `select-none`).
-use mathlib.Core.Path.{_≡_, refl, sym, ap, ap₂, _∙_}
+-- The ones of a word's bytes, all at once: a stage of the count over all bytes (`tally-stage`, `tally-word`), and the ones below each byte
+-- (`added-word`, `sums-word`). Three steps by these sums lead to the byte of a rank (`near-step`, `select-near`, `select-none`).
+use mathlib.Core.Path.{_≡_, refl, sym, ap, _∙_}
 use mathlib.Core.Logic.{⊎-elim}
 use Prim.Native.Nat.{ℕ, zero, suc, _+_, _-_, _*_, _/_, _%_, _^_, _≤_, _<_}
-use native.Mathlib.Nat.{zero-add, add-zero, suc-add, mul-add, mul-left-comm, mul-comm, add-assoc, mul-div-cancel-left, div-add-mod', div-lt-iff-lt-mul, pow-suc, eq-or-lt-of-le}
+use native.Mathlib.Nat.{zero-add, add-zero, suc-add, add-assoc, mul-add, mul-comm, mul-left-comm, pow-suc}
+use native.Mathlib.Nat.{mul-div-cancel-left, div-add-mod', div-lt-iff-lt-mul, eq-or-lt-of-le}
 use native.Mathlib.Omega.{arith}
 use lib.ListN.{getD}
 use lib.Dec.{lit<}
 use lib.Pow.{shr-shr, pow-pos}
 use lib.Bits.{bitAnd, and-block, and-mod, and-zero-l, and-zero-r, and-le-r}
-use lib.Count.{ones, onesIn, ones-le}
+use lib.Count.{ones, onesIn}
 use Rattle.minifilter.specs.Select.{selectIn, listed, bytewise, Sums, Stepped}
 use Rattle.minifilter.proofs.WordLaws.{shr-suc}
 use Rattle.minifilter.proofs.SelectLaws.{select-pass, select-low, select-byte-hit, ones-low, ones-byte, listed-at}
@@ -137,7 +138,8 @@ moved a b c d e f g h la lb lc ld le lf lg =
     rw r (omega (arith, l))
 
 -- bytes of at most 8, with those below them added in three steps
-module _ (a b c d e f g h : ℕ) (la : a ≤ 8) (lb : b ≤ 8) (lc : c ≤ 8) (ld : d ≤ 8) (le : e ≤ 8) (lf : f ≤ 8) (lg : g ≤ 8) (lh : h ≤ 8) where
+module _ (a b c d e f g h : ℕ) (la : a ≤ 8) (lb : b ≤ 8) (lc : c ≤ 8) (ld : d ≤ 8)
+    (le : e ≤ 8) (lf : f ≤ 8) (lg : g ≤ 8) (lh : h ≤ 8) where
   by-two : eight a b c d e f g h + eight a b c d e f g h * 2 ^ 8 % 2 ^ 64
       ≡ eight a (a + b) (b + c) (c + d) (d + e) (e + f) (f + g) (g + h)
   by-two = omega arith

@@ -209,6 +209,7 @@ fn row(high: u32) -> [u64; 8]
     }
 }
 
+// The entry of a byte value and a rank.
 pub fn at_rank(byte: u8, rank: u32) -> u32
     requires { ⌜ rank < 8 ⌝ }
     ensures { λ r. ⌜ r ≡ selectIn 8 byte rank ⌝ }

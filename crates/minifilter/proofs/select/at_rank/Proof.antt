@@ -1,5 +1,4 @@
 -- `minifilter::select::at_rank` meets its contract: the table is the list that the rule of its entries gives (`row`), read at one entry.
-use native.Mathlib.Omega.{arith}
 use borrow.Author.Needs.{needs}
 use Rattle.minifilter.proofs.SelectLaws.{listed-entry}
 use Rattle.minifilter.proofs.select.at_rank.Statement.{statement}

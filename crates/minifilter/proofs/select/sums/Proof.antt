@@ -1,6 +1,4 @@
 -- `minifilter::select::sums` meets its contract: the ones of the bytes are added up over two, four and eight bytes, and moved up by one.
-use mathlib.Core.Path.{refl, ap}
-use Prim.Native.Nat.{ℕ, _+_, _*_, _%_, _^_}
 use native.Mathlib.Omega.{arith}
 use borrow.Author.Needs.{needs}
 use Rattle.minifilter.proofs.TallyLaws.{Added, added-word, sums-word}
