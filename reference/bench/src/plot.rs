@@ -108,7 +108,7 @@ fn panel(svg: &mut String, panel: &Panel, left: f64, top: f64) {
 /// The panels in so many columns, with one legend for all.
 pub fn svg(title: &str, panels: &[Panel], columns: usize) -> String {
     let rows = panels.len().div_ceil(columns);
-    let (width, height) = (columns as f64 * WIDTH, rows as f64 * HEIGHT + 60.0);
+    let (width, height) = (columns as f64 * WIDTH + 12.0, rows as f64 * HEIGHT + 60.0);
     let mut svg = String::new();
     let _ = writeln!(
         svg,
