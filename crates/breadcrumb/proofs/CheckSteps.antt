@@ -135,14 +135,14 @@ module _ (B : ℕ) (img : List ℕ) (whole : Whole B img) (bytes : (i : ℕ) →
   unfolding frontAt
   front-was-read f {xs} h e =
       let sound = was-sound f (frontMembers layout1 (bucketAt f img)) xs e in
-      front-says f img (rw (whole .long) (front-inside B f h)) bytes {r = readingOf (some xs)} (rw sound) .0
+      front-says f 0 img (rw (whole .long) (front-inside B f h)) bytes {r = readingOf 0 (some xs)} (rw sound) .0
 
   pub back-was-read : (j : ℕ) {ys : List ℕ} → j < backyards B → backAt layout1 B j img ≡ accepted ys → BackRead B j img
   unfolding backAt
   back-was-read j {ys} h e =
       let within : BackIn B j img = record { small = whole .small; bucket = h; inside = rw (whole .long) (back-inside B j h) } in
       let sound = was-sound (fronts B + j) (backMembers layout1 B j (bucketAt (fronts B + j) img)) ys e in
-      back-says B j img within bytes {r = readingOf (some ys)} (rw sound) .0
+      back-says B j 0 img within bytes {r = readingOf 0 (some ys)} (rw sound) .0
 
   pub all-read : unsoundFront layout1 (fronts B) 0 img ≡ none → unsoundBack layout1 B (backyards B) 0 img ≡ none → AllRead B img
   unfolding unsoundFront unsoundBack

@@ -7,9 +7,9 @@ use mathlib.Core.Logic.{⊎-elim}
 use native.Mathlib.Nat.{eq-or-lt-of-le, max-eq-left, max-eq-right}
 use native.Mathlib.Omega.{arith}
 use lib.ListN.{length}
-use lib.Dec.{ltb, eqb}
+use lib.Dec.{T, ltb, eqb}
 use borrow.Author.Tests.{lt-ltb, le-ltb, eq-eqb, ne-eqb}
-use Rattle.multiset.specs.Multisets.{added, removed, largest}
+use Rattle.multiset.specs.Multisets.{added, removed, largest, ascending}
 use Rattle.multiset.proofs.MultisetLaws.{largest-added, removed-added, removed-added-other, copies-largest}
 use Rattle.crumbmap.specs.Layouts.{layout1}
 use Rattle.crumbmap.specs.CrumbMap.{firstBucket, secondBucket, bucketOf, crumbOf}
@@ -63,6 +63,13 @@ pub room-left : {n : ℕ} → n ≤ 22 → (n ≡ 22 → ⊥) → n < 22
 room-left l h = ⊎-elim (λ e. absurd (h e)) (λ k. k) (eq-or-lt-of-le l)
 
 -- the overflow is the largest in front, which x replaces, or x itself
+module _ (x : ℕ) (xs : List ℕ) (a : T (ascending xs)) where
+  pub over-largest : x < largest xs → largest (added x xs) ≡ largest xs
+  over-largest h = largest-added x xs a ∙ max-eq-right (omega arith)
+
+  pub over-key : largest xs ≤ x → largest (added x xs) ≡ x
+  over-key h = largest-added x xs a ∙ max-eq-left h
+
 module _ (B f x : ℕ) (w : Overflow) (img : List ℕ) (r : FrontRead f img) where
   pub overflowed-swap : x < largest (inFront f img) → 0 < length (inFront f img)
       → overflowed B f x w img
@@ -71,13 +78,11 @@ module _ (B f x : ℕ) (w : Overflow) (img : List ℕ) (r : FrontRead f img) whe
   unfolding overflowed
   overflowed-swap h p =
       let xs = inFront f img in
-      let e : largest (added x xs) ≡ largest xs = largest-added x xs (r .list .order) ∙ max-eq-right (omega arith) in
-      rw (e, removed-added-other (largest xs) x xs (r .list .order) (copies-largest xs p))
+      rw (over-largest x xs (r .list .order) h, removed-added-other (largest xs) x xs (r .list .order) (copies-largest xs p))
 
   pub overflowed-same : largest (inFront f img) ≤ x → putFront layout1 f (inFront f img) img ≡ img
       → overflowed B f x w img ≡ putBack layout1 B (w .bucket .0) (added (x * 16 + w .crumb) (inBack B (w .bucket .0) img)) img
   unfolding overflowed
   overflowed-same h same =
       let xs = inFront f img in
-      let e : largest (added x xs) ≡ x = largest-added x xs (r .list .order) ∙ max-eq-left h in
-      rw (e, removed-added x xs, same)
+      rw (over-key x xs (r .list .order) h, removed-added x xs, same)

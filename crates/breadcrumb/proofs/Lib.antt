@@ -12,3 +12,6 @@ pub mod ListingLaws
 pub mod PageLaws
 pub mod CheckSteps
 pub mod MergeSteps
+pub mod SpillLaws
+pub mod SettleLaws
+pub mod PushLaws

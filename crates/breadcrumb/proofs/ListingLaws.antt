@@ -5,8 +5,8 @@ use Prim.Native.Nat.{ℕ, suc, _+_, _-_, _/_, _%_, _≤_, _<_}
 use mathlib.Core.Bool.{Bool, true, false, cond}
 use mathlib.Core.List.{List, [], _∷_, _++_, map, append-assoc, append-nil}
 use native.Mathlib.Omega.{arith}
-use lib.ListN.{length, take, drop, length-append, length-drop, length-map, drop-of-length-le}
-use lib.Seq.{take-at, take-all, drop-at, drop-drop}
+use lib.ListN.{length, take, drop, length-append, length-drop, length-map, drop-of-length-le, take-append-drop}
+use lib.Seq.{take-at, take-all, drop-at, drop-append-le, drop-drop}
 use lib.Dec.{T, eqb, ltb}
 use borrow.Author.Tests.{ltb-true, ltb-false, lt-ltb, le-ltb}
 use borrow.Rule.Slice.PartMut.{putMid}
@@ -37,6 +37,14 @@ module _ {xs old : List ℕ} {n : ℕ} {new : List ℕ} (l : Listed xs old n new
 
   pub listed-same : n ≤ length old → length new ≡ length old
   listed-same h = omega (arith, l .many, ap length (l .stands), length-append xs (drop n old), length-drop n old)
+
+  -- the same in a longer list, whose start was lent
+  pub listed-part : (k : ℕ) (whole : List ℕ) → old ≡ take k whole → n ≤ length old → Listed xs whole n (new ++ drop k whole)
+  listed-part k whole e h = record {
+    many = l .many;
+    stands = rw (l .stands) (append-assoc xs (drop n old) (drop k whole)
+        ∙ ap (λ (r : List ℕ). xs ++ r) (sym (drop-append-le n old (drop k whole) h) ∙ ap (drop n) (rw e (take-append-drop k whole))));
+  }
 
   -- each of its members, turned into another, written into a second list
   pub listed-mapped : (g : ℕ → ℕ) {before after : List ℕ} → after ≡ map g (take n new) ++ drop (length (take n new)) before
@@ -113,6 +121,10 @@ module _ (B f : ℕ) (img : List ℕ) (r : MembersRead B f img) where
   pub behind-full : 28 ≤ length (inFront f img) → (behindIn B f img ≡ overflowIn B f img) × BothRead B f img
   unfolding behindIn
   behind-full h = (rw (le-ltb (length (inFront f img)) 28 h), r .behind (omega (arith, r .front .list .room)))
+
+  pub members-few : length (inFront f img) < 28 → membersIn B f img ≡ inFront f img
+  unfolding membersIn
+  members-few h = rw (behind-few h, addedAll-nil (inFront f img) (r .front .list .order))
 
   -- what holds of nothing and of First(f) and Second(f) holds of those that count
   either : (P : List ℕ → Type 0) → P [] → (BothRead B f img → P (overflowIn B f img)) → P (behindIn B f img)

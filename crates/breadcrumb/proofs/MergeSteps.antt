@@ -56,7 +56,7 @@ use Rattle.machine.proofs.MergeLaws.{More, InsertedAll, took-all, stuck-in, ins
 
 -- ---- lists
 
-ascending-append : (xs ys : List ℕ) → T (ascending xs) → T (ascending ys) → ((x y : ℕ) → 0 < copies x xs → 0 < copies y ys → x ≤ y)
+pub ascending-append : (xs ys : List ℕ) → T (ascending xs) → T (ascending ys) → ((x y : ℕ) → 0 < copies x xs → 0 < copies y ys → x ≤ y)
     → T (ascending (xs ++ ys))
 ascending-append [] ys a b l = b
 ascending-append (x ∷ xs) ys a b l =
@@ -99,7 +99,7 @@ put-put i b d img h l =
     ∙ drop-at (take (64 * i) img ++ b) (drop (64 * i + 64) img) (64 * i + 64) (rw (length-append (take (64 * i) img) b) (omega arith)) in
     rw (take-at (take (64 * i) img) (b ++ drop (64 * i + 64) img) (64 * i) head, past)
 
-put-same : (i : ℕ) (b img : List ℕ) → b ≡ bucketAt i img → put i b img ≡ img
+pub put-same : (i : ℕ) (b img : List ℕ) → b ≡ bucketAt i img → put i b img ≡ img
 unfolding put bucketAt
 put-same i b img e =
     rw e (ap (λ (l : List ℕ). take (64 * i) img ++ l) (ap (λ (l : List ℕ). take 64 (drop (64 * i) img) ++ l) (sym (drop-drop 64 (64 * i) img))
@@ -132,7 +132,7 @@ module _ (L : Layout) (fits : Fits64 L) (B f : ℕ) (h : f < fronts B) where
       go (took-all end q g m) = let s : end ≡ now = cc in (rw s at g, rw s at m)
       go (stuck-in q) = let z : _≡_ {A = ℕ} 0 1 = cc in absurd (omega arith)
 
-  front-twice : (xs ys img : List ℕ) → length img ≡ lengthOf B → FrontList L xs → putFront L f ys (putFront L f xs img) ≡ putFront L f ys img
+  pub front-twice : (xs ys img : List ℕ) → length img ≡ lengthOf B → FrontList L xs → putFront L f ys (putFront L f xs img) ≡ putFront L f ys img
   unfolding putFront
   front-twice xs ys img long list =
       put-put f (frontBytes L xs) (frontBytes L ys) img (length-frontBytes L fits xs (list .room)) (rw long (front-inside B f h))

@@ -52,8 +52,8 @@ below-bucket : (i : ℕ) (img : List ℕ) → ((k : ℕ) → getD img k 0 < 256)
 unfolding bucketAt
 below-bucket i img k = below-part 64 (64 * i) img k
 
-module _ (f : ℕ) (img : List ℕ) (inside : 64 * f + 64 ≤ length img) (bytes : (i : ℕ) → getD img i 0 < 256) where
-  front-said : (o : Option (List ℕ)) → frontMembers layout1 (bucketAt f img) ≡ o → FrontSays f img (readingOf o)
+module _ (f x : ℕ) (img : List ℕ) (inside : 64 * f + 64 ≤ length img) (bytes : (i : ℕ) → getD img i 0 < 256) where
+  front-said : (o : Option (List ℕ)) → frontMembers layout1 (bucketAt f img) ≡ o → FrontSays f x img (readingOf x o)
   unfolding frontAt frontList
   front-said none e = rw e
   front-said (some xs) e =
@@ -66,9 +66,10 @@ module _ (f : ℕ) (img : List ℕ) (inside : 64 * f + 64 ≤ length img) (bytes
           same = rw e (frontBytes-frontMembers layout1 fits1 (bucketAt f img) xs (below-bucket f img bytes) long e);
         },
         rw e,
+        rw e,
       )
 
-  pub front-says : {r : Reading} → r ≡ readingOf (frontMembers layout1 (bucketAt f img)) → FrontSays f img r
+  pub front-says : {r : Reading} → r ≡ readingOf x (frontMembers layout1 (bucketAt f img)) → FrontSays f x img r
   front-says e = rw e (front-said (frontMembers layout1 (bucketAt f img)) refl)
 
 -- what is given where a test holds is there
@@ -89,8 +90,8 @@ back-list : (B j : ℕ) (b ys : List ℕ) → backMembers layout1 B j b ≡ some
 unfolding backMembers backList
 back-list B j b ys e = keyed (slotKeys layout1 22 b) B j (spread 16 2 (drop 52 b)) ys e
 
-module _ (B j : ℕ) (img : List ℕ) (within : BackIn B j img) (bytes : (i : ℕ) → getD img i 0 < 256) where
-  back-said : (o : Option (List ℕ)) → backMembers layout1 B j (bucketAt (fronts B + j) img) ≡ o → BackSays B j img (readingOf o)
+module _ (B j y : ℕ) (img : List ℕ) (within : BackIn B j img) (bytes : (i : ℕ) → getD img i 0 < 256) where
+  back-said : (o : Option (List ℕ)) → backMembers layout1 B j (bucketAt (fronts B + j) img) ≡ o → BackSays B j y img (readingOf y o)
   unfolding backAt
   back-said none e = rw e
   back-said (some ys) e =
@@ -104,7 +105,8 @@ module _ (B j : ℕ) (img : List ℕ) (within : BackIn B j img) (bytes : (i : �
           list = rw l (backMembers-list layout1 fits1 B j (bucketAt i img) ys (below-bucket i img bytes) long e);
         },
         rw l,
+        rw l,
       )
 
-  pub back-says : {r : Reading} → r ≡ readingOf (backMembers layout1 B j (bucketAt (fronts B + j) img)) → BackSays B j img r
+  pub back-says : {r : Reading} → r ≡ readingOf y (backMembers layout1 B j (bucketAt (fronts B + j) img)) → BackSays B j y img r
   back-says e = rw e (back-said (backMembers layout1 B j (bucketAt (fronts B + j) img)) refl)

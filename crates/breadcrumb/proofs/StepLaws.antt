@@ -6,11 +6,13 @@ use mathlib.Core.List.{List}
 use mathlib.Core.Option.{Option, none, some}
 use native.Mathlib.Omega.{arith}
 use lib.ListN.{length}
-use Rattle.multiset.specs.Multisets.{copies, largest}
+use lib.Dec.{T}
+use Rattle.multiset.specs.Multisets.{below, copies, largest, ascending}
 use Rattle.multiset.proofs.MultisetLaws.{below-copies, copies-largest, largest-max}
+use Rattle.multiset.proofs.SlotLaws.{slot-inside, slot-holds, holds-copy, last-holds}
 use Rattle.crumbmap.specs.Layouts.{layout1, keys, fronts, backyards}
 use Rattle.crumbmap.specs.Fingerprints.{frontOf, keyOf}
-use Rattle.crumbmap.specs.CrumbMap.{firstBucket, secondBucket, bucketOf}
+use Rattle.crumbmap.specs.CrumbMap.{firstBucket, secondBucket, bucketOf, crumbOf}
 use Rattle.crumbmap.specs.Places.{Leads}
 use Rattle.crumbmap.specs.declared.Overflow.{Overflow}
 use Rattle.minifilter.specs.declared.Reading.{Reading}
@@ -19,13 +21,14 @@ use Rattle.machine.specs.Results.{Result, accepted, refused, andThen}
 use Rattle.machine.specs.Images.{sized, frontAt, backAt}
 use Rattle.machine.specs.Machine.{Change, backyard}
 use Rattle.breadcrumb.specs.Answers.{Changes}
-use Rattle.breadcrumb.specs.Steps.{sizing, inFront, inBack, Locates, LocatedIn, Whole, FrontIn, Placed, BackIn, FrontRead, BackRead, FrontSays, BackSays, BothRead, BothHold, BehindSays, FrontFull, Exceeds}
+use Rattle.breadcrumb.specs.Steps.{sizing, inFront, inBack, Locates, LocatedIn, Whole, FrontIn, Placed, BackIn, FrontRead, BackRead, FrontSays, BackSays, BothRead, BothHold, BothRank, BehindSays, At, FrontFull, Exceeds}
 use Rattle.breadcrumb.specs.declared.Changed.{Changed}
 use Rattle.breadcrumb.specs.declared.Size.{Size}
 use Rattle.breadcrumb.specs.declared.Size.the-variants.{Buckets, Wrong}
 use Rattle.breadcrumb.specs.declared.Target.{Target}
 use Rattle.breadcrumb.specs.declared.Located.{Located}
 use Rattle.breadcrumb.specs.declared.Located.the-variants as L
+use Rattle.breadcrumb.specs.declared.Ranked.{Ranked}
 use Rattle.breadcrumb.specs.declared.Behind.{Behind}
 use Rattle.breadcrumb.specs.declared.Behind.the-variants as H
 use Rattle.machine.proofs.ImageLaws.{sizeOf-some, front-inside, back-inside}
@@ -61,31 +64,33 @@ pub back-in : {B j : ℕ} {img : List ℕ} → Whole B img → j < backyards B �
 back-in {B} {j} p h = record { small = p .small; bucket = h; inside = rw (p .long) (back-inside B j h) }
 
 -- what a reader said, where it found members and where not
-module _ (f : ℕ) (img : List ℕ) {r : Reading} (said : FrontSays f img r) where
-  pub front-read : {n : ℕ} → r ≡ R.Members n → FrontRead f img × (length (inFront f img) ≡ n)
+module _ (f x : ℕ) (img : List ℕ) {r : Reading} (said : FrontSays f x img r) where
+  pub front-read : {n s : ℕ} → r ≡ R.Members n s → FrontRead f img × (length (inFront f img) ≡ n) × (s ≡ below x (inFront f img))
   front-read e = rw e at said
 
   pub front-unsound : r ≡ R.Unsound → frontAt layout1 f img ≡ refused 3 f
   front-unsound e = rw e at said
 
-module _ (B j : ℕ) (img : List ℕ) {r : Reading} (said : BackSays B j img r) where
-  pub back-read : {n : ℕ} → r ≡ R.Members n → BackRead B j img × (length (inBack B j img) ≡ n)
+module _ (B j y : ℕ) (img : List ℕ) {r : Reading} (said : BackSays B j y img r) where
+  pub back-read : {n s : ℕ} → r ≡ R.Members n s → BackRead B j img × (length (inBack B j img) ≡ n) × (s ≡ below y (inBack B j img))
   back-read e = rw e at said
 
   pub back-unsound : r ≡ R.Unsound → backAt layout1 B j img ≡ refused 3 (fronts B + j)
   back-unsound e = rw e at said
 
--- the same at the backyard bucket that a choice leads to
-module _ (t : Bool) {B f : ℕ} {w : Overflow} (leads : Leads t B f w) (img : List ℕ) {r : Reading} (said : BackSays B (w .bucket .0) img r) where
-  pub way-read : {n : ℕ} → r ≡ R.Members n → BackRead B (bucketOf t B f) img × (length (inBack B (bucketOf t B f) img) ≡ n)
-  way-read e = rw (leads .bucket) at (back-read B (w .bucket .0) img said e)
+-- the same at the backyard bucket that a choice leads to, for a key with the crumb that it carries there
+module _ (t : Bool) {B f : ℕ} {w : Overflow} (leads : Leads t B f w) (x : ℕ) (img : List ℕ) {r : Reading}
+    (said : BackSays B (w .bucket .0) (x * 16 + w .crumb) img r) where
+  pub way-read : {n s : ℕ} → r ≡ R.Members n s
+      → BackRead B (bucketOf t B f) img × (length (inBack B (bucketOf t B f) img) ≡ n) × (s ≡ below (x * 16 + crumbOf t f) (inBack B (bucketOf t B f) img))
+  way-read e = rw (leads .bucket, leads .crumb) at (back-read B (w .bucket .0) (x * 16 + w .crumb) img said e)
 
   pub way-unsound : r ≡ R.Unsound → backAt layout1 B (bucketOf t B f) img ≡ refused 3 (fronts B + bucketOf t B f)
-  way-unsound e = rw (leads .bucket) at (back-unsound B (w .bucket .0) img said e)
+  way-unsound e = rw (leads .bucket) at (back-unsound B (w .bucket .0) (x * 16 + w .crumb) img said e)
 
 -- what reading both backyard buckets said
-module _ (B f : ℕ) (img : List ℕ) {r : Behind} (said : BehindSays B f img r) where
-  pub both-hold : {n0 n1 : ℕ} → r ≡ H.Members n0 n1 → BothHold B f img n0 n1
+module _ (B f x : ℕ) (img : List ℕ) {r : Behind} (said : BehindSays B f x img r) where
+  pub both-hold : {a b : Ranked} → r ≡ H.Members a b → BothHold B f img (a .members) (b .members) × BothRank B f x img (a .below) (b .below)
   both-hold e = rw e at said
 
   pub both-unsound : {i : ℕ} → r ≡ H.Unsound i → backyard layout1 B f img ≡ refused 3 i
@@ -111,8 +116,8 @@ exceeds-absent {f} {x} {img} e = go (copies x (inFront f img)) (largest-max x (i
     go (suc n) h = absurd (omega (arith, h (omega arith), e .over))
 
 -- a front bucket that was read and holds 28 or more holds 28
-pub front-full : {f n : ℕ} {img : List ℕ} → FrontRead f img × (length (inFront f img) ≡ n) → 28 ≤ n → FrontFull f img
-front-full r h = record { read = r .0; full = omega (arith, r .0 .list .room, r .1) }
+pub front-full : {f n : ℕ} {img : List ℕ} → FrontRead f img → length (inFront f img) ≡ n → 28 ≤ n → FrontFull f img
+front-full r e h = record { read = r; full = omega (arith, r .list .room, e) }
 
 -- the largest of a full front bucket is a key in it
 pub largest-key : {f : ℕ} {img : List ℕ} → FrontFull f img → (0 < copies (largest (inFront f img)) (inFront f img)) × (largest (inFront f img) < keys layout1)
@@ -120,6 +125,16 @@ largest-key {f} {img} w =
     let xs = inFront f img in
     let c = copies-largest xs (omega (arith, w .full)) in
     (c, below-copies (keys layout1) (largest xs) xs (w .read .list .range) c)
+
+-- a key at a slot is there; one that is there stands behind the members below it; the largest of 28 stands at slot 27
+pub at-copies : {x i : ℕ} {xs : List ℕ} → T (ascending xs) → At x i xs → 0 < copies x xs
+at-copies {x} {i} {xs} a h = holds-copy x i xs a (h .inside) (h .same)
+
+pub below-at : {x : ℕ} {xs : List ℕ} → T (ascending xs) → 0 < copies x xs → At x (below x xs) xs
+below-at {x} {xs} a h = record { inside = slot-inside x xs a h; same = slot-holds x xs a h }
+
+pub last-at : {f : ℕ} {img : List ℕ} → FrontFull f img → At (largest (inFront f img)) 27 (inFront f img)
+last-at {f} {img} w = record { inside = omega (arith, w .full); same = last-holds 27 (inFront f img) (w .read .list .order) (w .full) }
 
 -- a call that changes an image, by what the machine's call comes to
 pub changes : {m n : Result Change} {old new : List ℕ} {r : Changed} → m ≡ n → Changes n old r new → Changes m old r new

@@ -3,3 +3,4 @@ pub mod Answers
 pub mod Steps
 pub mod Listings
 pub mod Passes
+pub mod Spills

@@ -4,8 +4,8 @@ use Prim.Native.Nat.{ℕ, _+_, _*_, _≤_, _<_}
 use mathlib.Core.Bool.{Bool, true, false}
 use mathlib.Core.List.{List, [], _∷_}
 use mathlib.Core.Option.{Option, none, some}
-use lib.ListN.{length}
-use Rattle.multiset.specs.Multisets.{added, removed, copies, slotOf, largest}
+use lib.ListN.{length, getD}
+use Rattle.multiset.specs.Multisets.{added, removed, below, copies, slotOf, largest}
 use Rattle.crumbmap.specs.Layouts.{layout1, keys, fronts, backyards}
 use Rattle.crumbmap.specs.Fingerprints.{frontOf, keyOf}
 use Rattle.crumbmap.specs.CrumbMap.{firstBucket, secondBucket, firstCrumb, secondCrumb, bucketOf, crumbOf}
@@ -100,13 +100,14 @@ pub record BackRead (B j : ℕ) (img : List ℕ) : Type 0 where
   pub list : BackList layout1 B j (inBack B j img)
 
 -- what reading a bucket says: how many members, or the refusal with its table number
-abbrev pub FrontSays : ℕ → List ℕ → Reading → Type 0
-FrontSays f img (R.Members n) = FrontRead f img × (length (inFront f img) ≡ n)
-FrontSays f img R.Unsound = frontAt layout1 f img ≡ refused 3 f
+-- and how many are below x
+abbrev pub FrontSays : ℕ → ℕ → List ℕ → Reading → Type 0
+FrontSays f x img (R.Members n s) = FrontRead f img × (length (inFront f img) ≡ n) × (s ≡ below x (inFront f img))
+FrontSays f x img R.Unsound = frontAt layout1 f img ≡ refused 3 f
 
-abbrev pub BackSays : ℕ → ℕ → List ℕ → Reading → Type 0
-BackSays B j img (R.Members n) = BackRead B j img × (length (inBack B j img) ≡ n)
-BackSays B j img R.Unsound = backAt layout1 B j img ≡ refused 3 (fronts B + j)
+abbrev pub BackSays : ℕ → ℕ → ℕ → List ℕ → Reading → Type 0
+BackSays B j y img (R.Members n s) = BackRead B j img × (length (inBack B j img) ≡ n) × (s ≡ below y (inBack B j img))
+BackSays B j y img R.Unsound = backAt layout1 B j img ≡ refused 3 (fronts B + j)
 
 -- both backyard buckets of f were read and are sound
 pub record BothRead (B f : ℕ) (img : List ℕ) : Type 0 where
@@ -119,10 +120,20 @@ pub record BothHold (B f : ℕ) (img : List ℕ) (n0 n1 : ℕ) : Type 0 where
   pub first : length (inBack B (firstBucket f) img) ≡ n0
   pub second : length (inBack B (secondBucket B f) img) ≡ n1
 
+-- as many of them are below key x with the crumb that it carries there
+pub record BothRank (B f x : ℕ) (img : List ℕ) (s0 s1 : ℕ) : Type 0 where
+  pub first : s0 ≡ below (x * 16 + firstCrumb f) (inBack B (firstBucket f) img)
+  pub second : s1 ≡ below (x * 16 + secondCrumb f) (inBack B (secondBucket B f) img)
+
 -- what reading both says
-abbrev pub BehindSays : ℕ → ℕ → List ℕ → Behind → Type 0
-BehindSays B f img (H.Members n0 n1) = BothHold B f img n0 n1
-BehindSays B f img (H.Unsound i) = backyard layout1 B f img ≡ refused 3 i
+abbrev pub BehindSays : ℕ → ℕ → ℕ → List ℕ → Behind → Type 0
+BehindSays B f x img (H.Members a b) = BothHold B f img (a .members) (b .members) × BothRank B f x img (a .below) (b .below)
+BehindSays B f x img (H.Unsound i) = backyard layout1 B f img ≡ refused 3 i
+
+-- x stands at slot i of a list
+pub record At (x i : ℕ) (xs : List ℕ) : Type 0 where
+  pub inside : i < length xs
+  pub same : getD xs i 0 ≡ x
 
 -- front bucket f was read and holds 28
 pub record FrontFull (f : ℕ) (img : List ℕ) : Type 0 where
@@ -157,13 +168,15 @@ abbrev pub soughtIn : ℕ → Result (List ℕ) → Sought
 soughtIn y (accepted ys) = atSlot (slotOf y ys)
 soughtIn y (refused n i) = S.Unsound i
 
--- a full front bucket, and a backyard bucket that can take its overflow
-pub record Overflows (t : Target) (w : Overflow) (img : List ℕ) : Type 0 where
+-- a full front bucket, and a backyard bucket that can take its overflow; the slots of the key in front and of the overflow there
+pub record Overflows (t : Target) (w : Overflow) (at to : ℕ) (img : List ℕ) : Type 0 where
   pub placed : Placed t img
   pub whole : FrontFull (t .front .0) img
   pub back : BackRead (t .size) (w .bucket .0) img
   pub room : length (inBack (t .size) (w .bucket .0) img) < 22
   pub crumb : w .crumb < 16
+  pub slot : at ≡ below (t .key) (inFront (t .front .0) img)
+  pub place : to ≡ below (largest (added (t .key) (inFront (t .front .0) img)) * 16 + w .crumb) (inBack (t .size) (w .bucket .0) img)
 
 -- the image after the largest of front bucket f and x went to backyard bucket and crumb w
 unfoldable pub overflowed : ℕ → ℕ → ℕ → Overflow → List ℕ → List ℕ
@@ -221,11 +234,11 @@ pub record Stands (B : ℕ) (w : Overflow) (v : ℕ) (img : List ℕ) : Type 0 w
   pub crumb : w .crumb < 16
   pub key : v < keys layout1
 
--- and a copy of the key in front, whose slot v is to take
-pub record Refills (t : Target) (w : Overflow) (v : ℕ) (img : List ℕ) : Type 0 where
+-- and a copy of the key at a slot in front, whose room v is to take
+pub record Refills (t : Target) (w : Overflow) (v at : ℕ) (img : List ℕ) : Type 0 where
   pub placed : Placed t img
-  pub front : FrontRead (t .front .0) img
-  pub here : 0 < copies (t .key) (inFront (t .front .0) img)
+  pub front : FrontFull (t .front .0) img
+  pub here : At (t .key) at (inFront (t .front .0) img)
   pub behind : Stands (t .size) w v img
 
 -- the image after v left backyard bucket and crumb w

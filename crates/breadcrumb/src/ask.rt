@@ -7,8 +7,8 @@ use crate::Place;
 use crate::Refusal;
 use crate::Sought;
 use crate::Target;
-use crate::image::find_back_at;
-use crate::image::find_front_at;
+use crate::image::copies_back_at;
+use crate::image::copies_front_at;
 use crate::image::largest_front_at;
 use crate::image::locate;
 use crate::image::read_back_at;
@@ -43,20 +43,20 @@ fn ask_front(image: &[u8], target: Target) -> Answer
     ensures { λ r. ⌜ askedOf r ≡ askAt layout1 (target .size) (target .front .0) (target .key) (now (image .entry)) ⌝ }
 {
     let front = target.front;
-    let Reading::Members(n) = read_front_at(image, front) else {
+    let key = target.key;
+    let Reading::Members(n, slot) = read_front_at(image, front, key) else {
         return Answer::Refused(Refusal::Unsound(front.0));
     };
-    let found = find_front_at(image, front, target.key);
-    if 0 < found.copies {
+    if 0 < copies_front_at(image, front, slot, key) {
         return Answer::Accepted(Asked {
             reads: 1,
-            place: Place::Front(found.slot),
+            place: Place::Front(slot),
         });
     }
     if n < 28 {
         return none_in(1);
     }
-    if target.key <= largest_front_at(image, front) {
+    if key <= largest_front_at(image, front) {
         return none_in(1);
     }
     ask_behind(image, target)
@@ -93,12 +93,12 @@ fn seek(image: &[u8], size: usize, way: Overflow, key: u32) -> Sought
     ensures { λ r. ⌜ r ≡ soughtIn (key * 16 + way .crumb) (backAt layout1 size (way .bucket .0) (now (image .entry))) ⌝ }
 {
     let bucket = way.bucket;
-    let Reading::Members(_) = read_back_at(image, size, bucket) else {
+    let member = key * 16 + way.crumb;
+    let Reading::Members(_, slot) = read_back_at(image, size, bucket, member) else {
         return Sought::Unsound(table_of(size, bucket));
     };
-    let found = find_back_at(image, size, bucket, key * 16 + way.crumb);
-    if 0 < found.copies {
-        Sought::At(found.slot)
+    if 0 < copies_back_at(image, size, bucket, slot, member) {
+        Sought::At(slot)
     } else {
         Sought::Absent
     }

@@ -4,10 +4,9 @@ use crate::Done;
 use crate::Fault;
 use crate::Refusal;
 use crate::Size;
-use crate::image::count_back_at;
 use crate::image::count_front_at;
 use crate::image::largest_front_at;
-use crate::image::member_back_at;
+use crate::image::list_back_at;
 use crate::image::read_back_at;
 use crate::image::read_front_at;
 use crate::image::size_of;
@@ -62,7 +61,7 @@ fn unsound_front(image: &[u8], size: usize) -> Fault
     let end = 8 * size;
     let mut f = 0;
     while f < end {
-        let Reading::Members(_) = read_front_at(image, Front(f)) else {
+        let Reading::Members(_, _) = read_front_at(image, Front(f), 0) else {
             return Fault::At(f);
         };
         f += 1;
@@ -78,7 +77,7 @@ fn unsound_back(image: &[u8], size: usize) -> Fault
     let end = size + 7;
     let mut j = 0;
     while j < end {
-        let Reading::Members(_) = read_back_at(image, size, Backyard(j)) else {
+        let Reading::Members(_, _) = read_back_at(image, size, Backyard(j), 0) else {
             return Fault::At(table_of(size, Backyard(j)));
         };
         j += 1;
@@ -107,11 +106,19 @@ fn bucket_in_turn(image: &[u8], size: usize, bucket: Backyard) -> bool
     requires { ⌜ AllRead size (now image) × (bucket .0 < backyards size) ⌝ }
     ensures { λ r. ⌜ r ≡ allInTurn layout1 size (bucket .0) (now (image .entry)) (inBack size (bucket .0) (now (image .entry))) ⌝ }
 {
-    let n = count_back_at(image, size, bucket);
+    let mut members = [0u32; 22];
+    let n = list_back_at(image, size, bucket, &mut members);
+    all_in_turn(image, size, bucket, &members[..n])
+}
+
+// None of these members of a backyard bucket stands before its turn.
+fn all_in_turn(image: &[u8], size: usize, bucket: Backyard, members: &[u32]) -> bool
+    requires { ⌜ AllRead size (now image) × (bucket .0 < backyards size) ⌝ }
+    ensures { λ r. ⌜ r ≡ allInTurn layout1 size (bucket .0) (now (image .entry)) (now (members .entry)) ⌝ }
+{
     let mut slot = 0;
-    while slot < n {
-        let member = member_back_at(image, size, bucket, slot);
-        if !member_in_turn(image, size, bucket, member) {
+    while slot < members.len() {
+        if !member_in_turn(image, size, bucket, members[slot]) {
             return false;
         }
         slot += 1;

@@ -8,7 +8,7 @@ use crate::Tally;
 use crate::Target;
 use crate::backyard::copies_at;
 use crate::backyard::read_behind;
-use crate::image::find_front_at;
+use crate::image::copies_front_at;
 use crate::image::largest_front_at;
 use crate::image::locate;
 use crate::image::read_front_at;
@@ -38,14 +38,15 @@ fn count_front(image: &[u8], target: Target) -> Tally
     ensures { λ r. ⌜ countedOf r ≡ countAt layout1 (target .size) (target .front .0) (target .key) (now (image .entry)) ⌝ }
 {
     let front = target.front;
-    let Reading::Members(n) = read_front_at(image, front) else {
+    let key = target.key;
+    let Reading::Members(n, slot) = read_front_at(image, front, key) else {
         return Tally::Refused(Refusal::Unsound(front.0));
     };
-    let copies = find_front_at(image, front, target.key).copies;
+    let copies = copies_front_at(image, front, slot, key);
     if n < 28 {
         return Tally::Accepted(Counted { copies, reads: 1 });
     }
-    if target.key < largest_front_at(image, front) {
+    if key < largest_front_at(image, front) {
         return Tally::Accepted(Counted { copies, reads: 1 });
     }
     count_behind(image, target, copies)
@@ -59,11 +60,11 @@ fn count_behind(image: &[u8], target: Target, here: usize) -> Tally
     let size = target.size;
     let front = target.front;
     let key = target.key;
-    match read_behind(image, size, front) {
+    match read_behind(image, size, front, key) {
         Behind::Unsound(table) => Tally::Refused(Refusal::Unsound(table)),
-        Behind::Members(_, _) => {
-            let first = copies_at(image, size, first_of(front, size), key);
-            let second = copies_at(image, size, second_of(front, size), key);
+        Behind::Members(a, b) => {
+            let first = copies_at(image, size, first_of(front, size), a.below, key);
+            let second = copies_at(image, size, second_of(front, size), b.below, key);
             Tally::Accepted(Counted {
                 copies: here + first + second,
                 reads: 3,

@@ -6,14 +6,17 @@ use crate::Behind;
 use crate::Changed;
 use crate::Leaving;
 use crate::Located;
+use crate::Ranked;
 use crate::Refusal;
 use crate::Target;
 use crate::backyard::copies_at;
 use crate::backyard::read_behind;
-use crate::image::find_front_at;
+use crate::image::copies_front_at;
 use crate::image::first_carrying_at;
 use crate::image::largest_front_at;
 use crate::image::locate;
+use crate::image::rank_back_at;
+use crate::image::rank_front_at;
 use crate::image::read_front_at;
 use crate::image::remove_back_at;
 use crate::image::remove_front_at;
@@ -26,9 +29,10 @@ use minifilter::Carried;
 use minifilter::Reading;
 ghost use mathlib.Core.Path.{_≡_};
 ghost use Prim.Native.Nat.{_+_, _<_};
-ghost use Rattle.multiset.specs.Multisets.{copies};
+ghost use Rattle.multiset.specs.Multisets.{removed, below, copies};
+ghost use Rattle.crumbmap.specs.Layouts.{layout1, keys};
 ghost use Rattle.breadcrumb.specs.Answers.{Deletes};
-ghost use Rattle.breadcrumb.specs.Steps.{FrontIn, Placed, DeletesAt, inFront, FrontFull, Exceeds, Elsewhere, BothHold, LeastSays, CopySays, Stands, Refills, takenOut, refilled};
+ghost use Rattle.breadcrumb.specs.Steps.{FrontIn, Placed, DeletesAt, inFront, At, FrontFull, Exceeds, Elsewhere, BothHold, BothRank, LeastSays, CopySays, Stands, Refills, takenOut, refilled};
 
 // One copy less of a hash's fingerprint.
 pub fn delete(image: &mut [u8], hash: u64) -> Changed
@@ -46,57 +50,76 @@ fn delete_at(image: &mut [u8], target: Target) -> Changed
     ensures { λ r. ⌜ DeletesAt target (now (image .entry)) r (now (image .exit)) ⌝ }
 {
     let front = target.front;
-    let Reading::Members(n) = read_front_at(image, front) else {
+    let key = target.key;
+    let Reading::Members(n, slot) = read_front_at(image, front, key) else {
         return Changed::Refused(Refusal::Unsound(front.0));
     };
-    if find_front_at(image, front, target.key).copies == 0 {
+    if copies_front_at(image, front, slot, key) == 0 {
         return delete_other(image, target, n);
     }
     if n < 28 {
-        remove_front_at(image, front, target.key);
+        remove_front_at(image, front, slot, key);
         return Changed::Accepted(0);
     }
-    refill(image, target)
+    refill(image, target, slot)
 }
 
-// A copy leaves a front bucket that holds 28: the smallest member behind takes its slot.
-fn refill(image: &mut [u8], target: Target) -> Changed
-    requires { ⌜ Placed target (now image) × FrontFull (target .front .0) (now image) × (0 < copies (target .key) (inFront (target .front .0) (now image))) ⌝ }
+// The copy at a slot leaves a front bucket that holds 28: the smallest member behind takes its room.
+fn refill(image: &mut [u8], target: Target, slot: usize) -> Changed
+    requires { ⌜ Placed target (now image) × FrontFull (target .front .0) (now image) × At (target .key) slot (inFront (target .front .0) (now image)) ⌝ }
     ensures { λ r. ⌜ DeletesAt target (now (image .entry)) r (now (image .exit)) ⌝ }
 {
     let size = target.size;
     let front = target.front;
-    match read_behind(image, size, front) {
+    match read_behind(image, size, front, target.key) {
         Behind::Unsound(table) => Changed::Refused(Refusal::Unsound(table)),
-        Behind::Members(n0, n1) => match least_behind(image, size, front, n0, n1) {
+        Behind::Members(a, b) => match least_behind(image, size, front, a.members, b.members) {
             Leaving::First(key) => Changed::Accepted(refill_from(
                 image,
                 target,
+                slot,
                 first_of(front, size),
                 key,
             )),
             Leaving::Second(key) => Changed::Accepted(refill_from(
                 image,
                 target,
+                slot,
                 second_of(front, size),
                 key,
             )),
             Leaving::Nothing => {
-                remove_front_at(image, front, target.key);
+                remove_front_at(image, front, slot, target.key);
                 Changed::Accepted(0)
             }
         },
     }
 }
 
-// A member of a backyard bucket takes the slot of the copy that leaves in front.
-fn refill_from(image: &mut [u8], target: Target, way: Overflow, key: u32) -> usize
-    requires { ⌜ Refills target way key (now image) ⌝ }
+// A member of a backyard bucket takes the room of the copy that leaves in front.
+fn refill_from(image: &mut [u8], target: Target, at: usize, way: Overflow, key: u32) -> usize
+    requires { ⌜ Refills target way key at (now image) ⌝ }
     ensures { λ r. ⌜ (r ≡ 1 + way .bucket .0)
         × (now (image .exit) ≡ refilled (target .size) (target .front .0) (target .key) key way (now (image .entry))) ⌝ }
 {
-    swap_front_at(image, target.front, target.key, key);
+    let slot = rank_without(image, target.front, target.key, key);
+    swap_front_at(image, target.front, at, target.key, slot, key);
     take_out(image, target.size, way, key)
+}
+
+// How many members of a front bucket that holds 28 are below a key once a copy of another has left it; 27 where the key exceeds them all.
+fn rank_without(image: &[u8], front: Front, gone: u32, key: u32) -> usize
+    requires { ⌜ FrontFull (front .0) (now image) × (0 < copies gone (inFront (front .0) (now image))) × (key < keys layout1) ⌝ }
+    ensures { λ r. ⌜ r ≡ below key (removed gone (inFront (front .0) (now (image .entry)))) ⌝ }
+{
+    if largest_front_at(image, front) < key {
+        return 27;
+    }
+    let below = rank_front_at(image, front, key);
+    if gone < key {
+        return below - 1;
+    }
+    below
 }
 
 // The smallest member of First(f) and Second(f). "A value standing in both is taken from First if n0 > n1, else from Second."
@@ -151,9 +174,9 @@ fn delete_behind(image: &mut [u8], target: Target) -> Changed
 {
     let size = target.size;
     let front = target.front;
-    match read_behind(image, size, front) {
+    match read_behind(image, size, front, target.key) {
         Behind::Unsound(table) => Changed::Refused(Refusal::Unsound(table)),
-        Behind::Members(n0, n1) => match copy_behind(image, target, n0, n1) {
+        Behind::Members(a, b) => match copy_behind(image, target, a, b) {
             Leaving::First(key) => Changed::Accepted(take_out(
                 image,
                 size,
@@ -172,15 +195,16 @@ fn delete_behind(image: &mut [u8], target: Target) -> Changed
 }
 
 // Where a copy of the key leaves from, by the same rule.
-fn copy_behind(image: &[u8], target: Target, n0: usize, n1: usize) -> Leaving
-    requires { ⌜ Placed target (now image) × BothHold (target .size) (target .front .0) (now image) n0 n1 ⌝ }
+fn copy_behind(image: &[u8], target: Target, a: Ranked, b: Ranked) -> Leaving
+    requires { ⌜ Placed target (now image) × BothHold (target .size) (target .front .0) (now image) (a .members) (b .members)
+        × BothRank (target .size) (target .front .0) (target .key) (now image) (a .below) (b .below) ⌝ }
     ensures { λ r. ⌜ CopySays (target .size) (target .front .0) (target .key) (now (image .entry)) r ⌝ }
 {
     let size = target.size;
     let front = target.front;
     let key = target.key;
-    let in_first = copies_at(image, size, first_of(front, size), key);
-    let in_second = copies_at(image, size, second_of(front, size), key);
+    let in_first = copies_at(image, size, first_of(front, size), a.below, key);
+    let in_second = copies_at(image, size, second_of(front, size), b.below, key);
     if in_first == 0 {
         if in_second == 0 {
             return Leaving::Nothing;
@@ -190,7 +214,7 @@ fn copy_behind(image: &[u8], target: Target, n0: usize, n1: usize) -> Leaving
     if in_second == 0 {
         return Leaving::First(key);
     }
-    if n1 < n0 {
+    if b.members < a.members {
         Leaving::First(key)
     } else {
         Leaving::Second(key)
@@ -203,6 +227,8 @@ fn take_out(image: &mut [u8], size: usize, way: Overflow, key: u32) -> usize
     ensures { λ r. ⌜ (r ≡ 1 + way .bucket .0) × (now (image .exit) ≡ takenOut size key way (now (image .entry))) ⌝ }
 {
     let bucket = way.bucket;
-    remove_back_at(image, size, bucket, key * 16 + way.crumb);
+    let member = key * 16 + way.crumb;
+    let slot = rank_back_at(image, size, bucket, member);
+    remove_back_at(image, size, bucket, slot, member);
     1 + bucket.0
 }

@@ -9,18 +9,19 @@ use crumbmap::Front;
 use crumbmap::fingerprint::front_of;
 use crumbmap::fingerprint::key_of;
 use minifilter::Carried;
-use minifilter::Found;
 use minifilter::Reading;
 use minifilter::edit::clear;
 use minifilter::edit::insert_back;
 use minifilter::edit::insert_front;
 use minifilter::edit::remove_back;
 use minifilter::edit::remove_front;
-use minifilter::find::find_back;
-use minifilter::find::find_front;
+use minifilter::find::copies_back;
+use minifilter::find::copies_front;
 use minifilter::find::first_carrying;
 use minifilter::find::largest_front;
-use minifilter::find::member_back;
+use minifilter::find::list_back;
+use minifilter::find::rank_back;
+use minifilter::find::rank_front;
 use minifilter::read::read_back;
 use minifilter::read::read_front;
 use minifilter::word::occupancy;
@@ -28,13 +29,14 @@ use minifilter::word::word_of;
 ghost use mathlib.Core.Path.{_≡_};
 ghost use Prim.Native.Nat.{_+_, _*_, _<_, _≤_};
 ghost use mathlib.Core.List.{[]};
-ghost use lib.ListN.{length, getD};
-ghost use Rattle.multiset.specs.Multisets.{added, removed, copies, largest};
+ghost use lib.ListN.{length};
+ghost use Rattle.multiset.specs.Multisets.{added, removed, below, copies, largest};
 ghost use Rattle.crumbmap.specs.Layouts.{layout1, keys, fronts, backyards};
 ghost use Rattle.minifilter.specs.Buckets.{frontBytes, carrying};
-ghost use Rattle.minifilter.specs.Readings.{FoundIn, firstOf};
+ghost use Rattle.minifilter.specs.Readings.{firstOf};
 ghost use Rattle.machine.specs.Images.{sizeOf, put, putFront, putBack};
-ghost use Rattle.breadcrumb.specs.Steps.{sizing, LocatedIn, inFront, inBack, BackIn, FrontRead, BackRead, FrontSays, BackSays};
+ghost use Rattle.breadcrumb.specs.Steps.{sizing, LocatedIn, inFront, inBack, BackIn, FrontRead, BackRead, At, FrontSays, BackSays};
+ghost use Rattle.breadcrumb.specs.Listings.{Listed};
 ghost use Rattle.breadcrumb.specs.Passes.{served};
 
 // "A lent byte slice of 576 × B + 448 bytes, B from 1 to 65,536."
@@ -78,36 +80,47 @@ pub(crate) fn table_of(size: usize, bucket: Backyard) -> usize
     8 * size + j
 }
 
-// A front bucket, read whole.
-pub(crate) fn read_front_at(image: &[u8], front: Front) -> Reading
-    requires { ⌜ 64 * front .0 + 64 ≤ length (now image) ⌝ }
-    ensures { λ r. ⌜ FrontSays (front .0) (now (image .entry)) r ⌝ }
+// A front bucket, read whole, and how many of its members are below a key.
+pub(crate) fn read_front_at(image: &[u8], front: Front, key: u32) -> Reading
+    requires { ⌜ (64 * front .0 + 64 ≤ length (now image)) × (key < keys layout1) ⌝ }
+    ensures { λ r. ⌜ FrontSays (front .0) key (now (image .entry)) r ⌝ }
 {
     let f = front.0;
     let at = 64 * f;
     let end = at + 64;
-    read_front(&image[at..end])
+    read_front(&image[at..end], key)
 }
 
-// A backyard bucket, read whole.
-pub(crate) fn read_back_at(image: &[u8], size: usize, bucket: Backyard) -> Reading
-    requires { ⌜ BackIn size (bucket .0) (now image) ⌝ }
-    ensures { λ r. ⌜ BackSays size (bucket .0) (now (image .entry)) r ⌝ }
+// A backyard bucket, read whole, and how many of its members are below one.
+pub(crate) fn read_back_at(image: &[u8], size: usize, bucket: Backyard, member: u32) -> Reading
+    requires { ⌜ BackIn size (bucket .0) (now image) × (member < keys layout1 * 16) ⌝ }
+    ensures { λ r. ⌜ BackSays size (bucket .0) member (now (image .entry)) r ⌝ }
 {
     let at = 64 * table_of(size, bucket);
     let end = at + 64;
-    read_back(&image[at..end], size, bucket)
+    read_back(&image[at..end], size, bucket, member)
 }
 
-// Where a key stands in a sound front bucket.
-pub(crate) fn find_front_at(image: &[u8], front: Front, key: u32) -> Found
+// How many members of a sound front bucket are below a key.
+pub(crate) fn rank_front_at(image: &[u8], front: Front, key: u32) -> usize
     requires { ⌜ FrontRead (front .0) (now image) × (key < keys layout1) ⌝ }
-    ensures { λ r. ⌜ FoundIn key (inFront (front .0) (now (image .entry))) r ⌝ }
+    ensures { λ r. ⌜ r ≡ below key (inFront (front .0) (now (image .entry))) ⌝ }
 {
     let f = front.0;
     let at = 64 * f;
     let end = at + 64;
-    find_front(&image[at..end], key)
+    rank_front(&image[at..end], key)
+}
+
+// The copies of a key in a sound front bucket, from the slot behind the members below it.
+pub(crate) fn copies_front_at(image: &[u8], front: Front, slot: usize, key: u32) -> usize
+    requires { ⌜ FrontRead (front .0) (now image) × (key < keys layout1) × (slot ≡ below key (inFront (front .0) (now image))) ⌝ }
+    ensures { λ r. ⌜ r ≡ copies key (inFront (front .0) (now (image .entry))) ⌝ }
+{
+    let f = front.0;
+    let at = 64 * f;
+    let end = at + 64;
+    copies_front(&image[at..end], slot, key)
 }
 
 // The largest key of a sound front bucket that holds 28.
@@ -121,14 +134,30 @@ pub(crate) fn largest_front_at(image: &[u8], front: Front) -> u32
     largest_front(&image[at..end])
 }
 
-// Where a member stands in a sound backyard bucket.
-pub(crate) fn find_back_at(image: &[u8], size: usize, bucket: Backyard, member: u32) -> Found
+// How many members of a sound backyard bucket are below one.
+pub(crate) fn rank_back_at(image: &[u8], size: usize, bucket: Backyard, member: u32) -> usize
     requires { ⌜ BackRead size (bucket .0) (now image) × (member < keys layout1 * 16) ⌝ }
-    ensures { λ r. ⌜ FoundIn member (inBack size (bucket .0) (now (image .entry))) r ⌝ }
+    ensures { λ r. ⌜ r ≡ below member (inBack size (bucket .0) (now (image .entry))) ⌝ }
 {
     let at = 64 * table_of(size, bucket);
     let end = at + 64;
-    find_back(&image[at..end], member)
+    rank_back(&image[at..end], member)
+}
+
+// The copies of a member in a sound backyard bucket, from the slot behind the members below it.
+pub(crate) fn copies_back_at(
+    image: &[u8],
+    size: usize,
+    bucket: Backyard,
+    slot: usize,
+    member: u32,
+) -> usize
+    requires { ⌜ BackRead size (bucket .0) (now image) × (member < keys layout1 * 16) × (slot ≡ below member (inBack size (bucket .0) (now image))) ⌝ }
+    ensures { λ r. ⌜ r ≡ copies member (inBack size (bucket .0) (now (image .entry))) ⌝ }
+{
+    let at = 64 * table_of(size, bucket);
+    let end = at + 64;
+    copies_back(&image[at..end], slot, member)
 }
 
 // The lowest key that carries a crumb in a sound backyard bucket.
@@ -141,55 +170,77 @@ pub(crate) fn first_carrying_at(image: &[u8], size: usize, bucket: Backyard, cru
     first_carrying(&image[at..end], crumb)
 }
 
-// A key joins a front bucket that has a free slot.
-pub(crate) fn insert_front_at(image: &mut [u8], front: Front, key: u32)
-    requires { ⌜ FrontRead (front .0) (now image) × (length (inFront (front .0) (now image)) < 28) × (key < keys layout1) ⌝ }
+// A key joins a front bucket that has a free slot, behind the members below it.
+pub(crate) fn insert_front_at(image: &mut [u8], front: Front, slot: usize, key: u32)
+    requires { ⌜ FrontRead (front .0) (now image) × (length (inFront (front .0) (now image)) < 28) × (key < keys layout1)
+        × (slot ≡ below key (inFront (front .0) (now image))) ⌝ }
     ensures { λ _. ⌜ now (image .exit) ≡ putFront layout1 (front .0) (added key (inFront (front .0) (now (image .entry)))) (now (image .entry)) ⌝ }
 {
     let f = front.0;
     let at = 64 * f;
     let end = at + 64;
-    insert_front(&mut image[at..end], key);
+    insert_front(&mut image[at..end], slot, key);
 }
 
-// One copy of a key that is there leaves a front bucket.
-pub(crate) fn remove_front_at(image: &mut [u8], front: Front, key: u32)
-    requires { ⌜ FrontRead (front .0) (now image) × (0 < copies key (inFront (front .0) (now image))) × (key < keys layout1) ⌝ }
+// The key at a slot leaves a front bucket.
+pub(crate) fn remove_front_at(image: &mut [u8], front: Front, slot: usize, key: u32)
+    requires { ⌜ FrontRead (front .0) (now image) × At key slot (inFront (front .0) (now image)) ⌝ }
     ensures { λ _. ⌜ now (image .exit) ≡ putFront layout1 (front .0) (removed key (inFront (front .0) (now (image .entry)))) (now (image .entry)) ⌝ }
 {
     let f = front.0;
     let at = 64 * f;
     let end = at + 64;
-    remove_front(&mut image[at..end], key);
+    remove_front(&mut image[at..end], slot, key);
 }
 
-// One copy of a key that is there leaves a front bucket, and another key takes its slot.
-pub(crate) fn swap_front_at(image: &mut [u8], front: Front, from: u32, to: u32)
-    requires { ⌜ FrontRead (front .0) (now image) × (0 < copies from (inFront (front .0) (now image))) × (from < keys layout1) × (to < keys layout1) ⌝ }
+// The key at slot `at` leaves a front bucket, and another one joins it, behind `slot` of the others.
+pub(crate) fn swap_front_at(
+    image: &mut [u8],
+    front: Front,
+    at: usize,
+    from: u32,
+    slot: usize,
+    to: u32,
+)
+    requires { ⌜ FrontRead (front .0) (now image) × At from at (inFront (front .0) (now image)) × (to < keys layout1)
+        × (slot ≡ below to (removed from (inFront (front .0) (now image)))) ⌝ }
     ensures { λ _. ⌜ now (image .exit) ≡ putFront layout1 (front .0) (added to (removed from (inFront (front .0) (now (image .entry))))) (now (image .entry)) ⌝ }
 {
-    remove_front_at(image, front, from);
-    insert_front_at(image, front, to);
+    remove_front_at(image, front, at, from);
+    insert_front_at(image, front, slot, to);
 }
 
-// A member joins a backyard bucket that has a free slot.
-pub(crate) fn insert_back_at(image: &mut [u8], size: usize, bucket: Backyard, member: u32)
-    requires { ⌜ BackRead size (bucket .0) (now image) × (length (inBack size (bucket .0) (now image)) < 22) × (member < keys layout1 * 16) ⌝ }
+// A member joins a backyard bucket that has a free slot, behind the members below it.
+pub(crate) fn insert_back_at(
+    image: &mut [u8],
+    size: usize,
+    bucket: Backyard,
+    slot: usize,
+    member: u32,
+)
+    requires { ⌜ BackRead size (bucket .0) (now image) × (length (inBack size (bucket .0) (now image)) < 22) × (member < keys layout1 * 16)
+        × (slot ≡ below member (inBack size (bucket .0) (now image))) ⌝ }
     ensures { λ _. ⌜ now (image .exit) ≡ putBack layout1 size (bucket .0) (added member (inBack size (bucket .0) (now (image .entry)))) (now (image .entry)) ⌝ }
 {
     let at = 64 * table_of(size, bucket);
     let end = at + 64;
-    insert_back(&mut image[at..end], member);
+    insert_back(&mut image[at..end], slot, member);
 }
 
-// One copy of a member that is there leaves a backyard bucket.
-pub(crate) fn remove_back_at(image: &mut [u8], size: usize, bucket: Backyard, member: u32)
-    requires { ⌜ BackRead size (bucket .0) (now image) × (0 < copies member (inBack size (bucket .0) (now image))) × (member < keys layout1 * 16) ⌝ }
+// The member at a slot leaves a backyard bucket.
+pub(crate) fn remove_back_at(
+    image: &mut [u8],
+    size: usize,
+    bucket: Backyard,
+    slot: usize,
+    member: u32,
+)
+    requires { ⌜ BackRead size (bucket .0) (now image) × At member slot (inBack size (bucket .0) (now image)) ⌝ }
     ensures { λ _. ⌜ now (image .exit) ≡ putBack layout1 size (bucket .0) (removed member (inBack size (bucket .0) (now (image .entry)))) (now (image .entry)) ⌝ }
 {
     let at = 64 * table_of(size, bucket);
     let end = at + 64;
-    remove_back(&mut image[at..end], member);
+    remove_back(&mut image[at..end], slot, member);
 }
 
 // The bucket of a table number becomes empty.
@@ -223,14 +274,14 @@ pub(crate) fn count_back_at(image: &[u8], size: usize, bucket: Backyard) -> usiz
     occupancy(word_of(&image[at..end]))
 }
 
-// The member at a slot in use of a sound backyard bucket.
-pub(crate) fn member_back_at(image: &[u8], size: usize, bucket: Backyard, slot: usize) -> u32
-    requires { ⌜ BackRead size (bucket .0) (now image) × (slot < length (inBack size (bucket .0) (now image))) ⌝ }
-    ensures { λ r. ⌜ r ≡ getD (inBack size (bucket .0) (now (image .entry))) slot 0 ⌝ }
+// All members of a sound backyard bucket, in order, into the start of `out`; how many.
+pub(crate) fn list_back_at(image: &[u8], size: usize, bucket: Backyard, out: &mut [u32]) -> usize
+    requires { ⌜ BackRead size (bucket .0) (now image) × (length (now out) ≡ 22) ⌝ }
+    ensures { λ r. ⌜ Listed (inBack size (bucket .0) (now (image .entry))) (now (out .entry)) r (now (out .exit)) ⌝ }
 {
     let at = 64 * table_of(size, bucket);
     let end = at + 64;
-    member_back(&image[at..end], slot)
+    list_back(&image[at..end], out)
 }
 
 // The bytes of whichever of two sound front buckets has members, the first's where it has any.

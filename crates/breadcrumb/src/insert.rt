@@ -13,14 +13,17 @@ use crate::image::largest_front_at;
 use crate::image::locate;
 use crate::image::read_front_at;
 use crate::image::swap_front_at;
+use crumbmap::Front;
 use crumbmap::Overflow;
 use crumbmap::map::first_of;
 use crumbmap::map::second_of;
 use minifilter::Reading;
 ghost use mathlib.Core.Path.{_≡_};
-ghost use Prim.Native.Nat.{_+_};
+ghost use Prim.Native.Nat.{_+_, _<_};
+ghost use Rattle.multiset.specs.Multisets.{added, below, largest};
+ghost use Rattle.crumbmap.specs.Layouts.{layout1, keys};
 ghost use Rattle.breadcrumb.specs.Answers.{Inserts};
-ghost use Rattle.breadcrumb.specs.Steps.{Placed, InsertsAt, FrontFull, Overflows, overflowed};
+ghost use Rattle.breadcrumb.specs.Steps.{inFront, Placed, InsertsAt, FrontFull, Overflows, overflowed};
 
 // One more copy of a hash's fingerprint.
 pub fn insert(image: &mut [u8], hash: u64) -> Changed
@@ -38,42 +41,57 @@ pub(crate) fn insert_at(image: &mut [u8], target: Target) -> Changed
     ensures { λ r. ⌜ InsertsAt target (now (image .entry)) r (now (image .exit)) ⌝ }
 {
     let front = target.front;
-    let Reading::Members(n) = read_front_at(image, front) else {
+    let key = target.key;
+    let Reading::Members(n, slot) = read_front_at(image, front, key) else {
         return Changed::Refused(Refusal::Unsound(front.0));
     };
     if n < 28 {
-        insert_front_at(image, front, target.key);
+        insert_front_at(image, front, slot, key);
         return Changed::Accepted(0);
     }
-    insert_full(image, target)
+    insert_full(image, target, slot)
 }
 
 // Which backyard bucket takes the overflow of a front bucket that holds 28. Where n0 is not below n1, both hold 22 if b1 does.
-fn insert_full(image: &mut [u8], target: Target) -> Changed
-    requires { ⌜ Placed target (now image) × FrontFull (target .front .0) (now image) ⌝ }
+fn insert_full(image: &mut [u8], target: Target, slot: usize) -> Changed
+    requires { ⌜ Placed target (now image) × FrontFull (target .front .0) (now image) × (slot ≡ below (target .key) (inFront (target .front .0) (now image))) ⌝ }
     ensures { λ r. ⌜ InsertsAt target (now (image .entry)) r (now (image .exit)) ⌝ }
 {
     let size = target.size;
     let front = target.front;
-    match read_behind(image, size, front) {
+    let over = overflow_of(image, front, target.key);
+    match read_behind(image, size, front, over) {
         Behind::Unsound(table) => Changed::Refused(Refusal::Unsound(table)),
-        Behind::Members(n0, n1) => {
-            if n0 < n1 {
+        Behind::Members(a, b) => {
+            if a.members < b.members {
                 let first = first_of(front, size);
-                return Changed::Accepted(overflow_to(image, target, first));
+                return Changed::Accepted(overflow_to(image, target, slot, first, a.below));
             }
-            if n1 == 22 {
+            if b.members == 22 {
                 return Changed::Refused(Refusal::Full);
             }
             let second = second_of(front, size);
-            Changed::Accepted(overflow_to(image, target, second))
+            Changed::Accepted(overflow_to(image, target, slot, second, b.below))
         }
     }
 }
 
-// The largest of the front bucket's members and the key goes to a backyard bucket; the rest stay in front.
-fn overflow_to(image: &mut [u8], target: Target, way: Overflow) -> usize
-    requires { ⌜ Overflows target way (now image) ⌝ }
+// "The largest of Front(f) and g."
+fn overflow_of(image: &[u8], front: Front, key: u32) -> u32
+    requires { ⌜ FrontFull (front .0) (now image) × (key < keys layout1) ⌝ }
+    ensures { λ r. ⌜ (r ≡ largest (added key (inFront (front .0) (now (image .entry))))) × (r < keys layout1) ⌝ }
+{
+    let largest = largest_front_at(image, front);
+    if key < largest {
+        return largest;
+    }
+    key
+}
+
+// The largest of the front bucket's members and the key, whose slot there is `slot`, goes to slot `to` of a backyard bucket; the rest stay
+// in front.
+fn overflow_to(image: &mut [u8], target: Target, slot: usize, way: Overflow, to: usize) -> usize
+    requires { ⌜ Overflows target way slot to (now image) ⌝ }
     ensures { λ r. ⌜ (r ≡ 1 + way .bucket .0)
         × (now (image .exit) ≡ overflowed (target .size) (target .front .0) (target .key) way (now (image .entry))) ⌝ }
 {
@@ -83,10 +101,10 @@ fn overflow_to(image: &mut [u8], target: Target, way: Overflow) -> usize
     let crumb = way.crumb;
     let largest = largest_front_at(image, front);
     if key < largest {
-        swap_front_at(image, front, largest, key);
-        insert_back_at(image, target.size, bucket, largest * 16 + crumb);
+        swap_front_at(image, front, 27, largest, slot, key);
+        insert_back_at(image, target.size, bucket, to, largest * 16 + crumb);
         return 1 + bucket.0;
     }
-    insert_back_at(image, target.size, bucket, key * 16 + crumb);
+    insert_back_at(image, target.size, bucket, to, key * 16 + crumb);
     1 + bucket.0
 }

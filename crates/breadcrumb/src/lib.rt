@@ -13,6 +13,7 @@ mod listing;
 mod lists;
 pub mod merge;
 pub mod page;
+mod settle;
 
 use crumbmap::Front;
 
@@ -97,9 +98,15 @@ pub(crate) enum Size {
     Wrong,
 }
 
-// What reading both backyard buckets of a front bucket finds: n0 and n1, or the table number of the first that is unsound.
+// What reading a backyard bucket finds: how many members it holds, and how many of them are below the one that is sought.
+pub(crate) struct Ranked {
+    pub members: usize,
+    pub below: usize,
+}
+
+// What reading both backyard buckets of a front bucket finds, or the table number of the first that is unsound.
 pub(crate) enum Behind {
-    Members(usize, usize),
+    Members(Ranked, Ranked),
     Unsound(usize),
 }
 
@@ -133,4 +140,11 @@ pub(crate) enum Reach {
 pub(crate) enum Fault {
     At(usize),
     Nowhere,
+}
+
+// How many keys of two lists share a front bucket, the first of each, and how many leave it.
+pub(crate) struct Split {
+    pub kept: usize,
+    pub taken: usize,
+    pub gone: usize,
 }

@@ -4,6 +4,7 @@
 use crate::Behind;
 use crate::Held;
 use crate::backyard::read_behind;
+use crate::image::count_front_at;
 use crate::image::read_front_at;
 use crate::image::table_of;
 use crate::lists::merge_into;
@@ -58,13 +59,13 @@ pub(crate) fn count_members(image: &[u8], size: usize, front: Front) -> Held
     requires { ⌜ FrontIn size (front .0) (now image) ⌝ }
     ensures { λ r. ⌜ HeldSays size (front .0) (now (image .entry)) r ⌝ }
 {
-    let Reading::Members(n) = read_front_at(image, front) else {
+    let Reading::Members(n, _) = read_front_at(image, front, 0) else {
         return Held::Unsound(front.0);
     };
     if n < 28 {
         return Held::Members(n);
     }
-    match read_behind(image, size, front) {
+    match read_behind(image, size, front, 0) {
         Behind::Unsound(table) => Held::Unsound(table),
         Behind::Members(_, _) => Held::Members(n + count_overflow(image, size, front)),
     }
@@ -85,23 +86,23 @@ pub(crate) fn list_members(image: &[u8], size: usize, front: Front, out: &mut [u
     requires { ⌜ MembersRead size (front .0) (now image) × (length (now out) ≡ 72) ⌝ }
     ensures { λ r. ⌜ Listed (membersIn size (front .0) (now (image .entry))) (now (out .entry)) r (now (out .exit)) ⌝ }
 {
+    if count_front_at(image, front) < 28 {
+        return list_front_at(image, front, &mut out[..28]);
+    }
+    list_full(image, size, front, out)
+}
+
+// The same where the front bucket holds 28: those behind it count too.
+fn list_full(image: &[u8], size: usize, front: Front, out: &mut [u32]) -> usize
+    requires { ⌜ MembersRead size (front .0) (now image) × (28 ≤ length (inFront (front .0) (now image))) × (length (now out) ≡ 72) ⌝ }
+    ensures { λ r. ⌜ Listed (membersIn size (front .0) (now (image .entry))) (now (out .entry)) r (now (out .exit)) ⌝ }
+{
     let mut keys = [0u32; 28];
     let mut over = [0u32; 44];
     let n = list_front_at(image, front, &mut keys);
-    let m = list_behind(image, size, front, n, &mut over);
+    let m = list_overflow(image, size, front, &mut over);
     merge_into(&keys[..n], &over[..m], out);
     n + m
-}
-
-// Those behind a front bucket with n members, into the start of `out`; how many.
-fn list_behind(image: &[u8], size: usize, front: Front, n: usize, out: &mut [u32]) -> usize
-    requires { ⌜ MembersRead size (front .0) (now image) × (n ≡ length (inFront (front .0) (now image))) × (length (now out) ≡ 44) ⌝ }
-    ensures { λ r. ⌜ Listed (behindIn size (front .0) (now (image .entry))) (now (out .entry)) r (now (out .exit)) ⌝ }
-{
-    if n < 28 {
-        return 0;
-    }
-    list_overflow(image, size, front, out)
 }
 
 // First(f) and Second(f), ascending, into the start of `out`; how many.

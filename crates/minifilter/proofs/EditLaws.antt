@@ -4,25 +4,26 @@
 use mathlib.Core.Path.{_≡_, refl, sym, ap, ap₂, _∙_}
 use Prim.Native.Nat.{ℕ, suc, _+_, _*_, _/_, _%_, _-_, _^_, _≤_, _<_}
 use mathlib.Core.List.{List, [], _∷_, _++_, append-assoc, append-nil}
-use native.Mathlib.Nat.{div-mul-le-self, le-div-iff-mul-le, div-div-eq-div-mul}
-use native.Mathlib.Decide.{decLe}
-use native.Mathlib.Omega.{arith}
-use lib.ListN.{length, take, drop, replicate, length-drop, drop-of-length-le}
+use native.Mathlib.Nat.{div-div-eq-div-mul}
+use native.Mathlib.Omega.{arith, by-contra}
+use lib.ListN.{length, take, drop, getD, replicate, length-drop, drop-of-length-le}
 use lib.Seq.{take-all, take-at, drop-at, drop-drop, length-take-le}
-use lib.Dec.{lit<, lit≤}
-use Rattle.multiset.specs.Multisets.{added, removed, copies, below, Below}
+use lib.Dec.{T, lit<, lit≤}
+use Rattle.multiset.specs.Multisets.{ascending, added, removed, copies, below, Below}
 use Rattle.multiset.specs.Digits.{digits, value, spread, grouped, padded, highs, lows}
 use Rattle.crumbmap.specs.Layouts.{layout1, keys, wordBytes}
 use Rattle.minifilter.specs.Words.{wordFrom, openedAt, closedAt}
 use Rattle.minifilter.specs.Buckets.{slotBytes, frontBytes, backBytes}
 use Rattle.minifilter.specs.Readings.{SoundFront, SoundBack, frontList, backList}
 use Rattle.minifilter.specs.Edits.{inserted, takenOut, slotInserted, slotRemoved, crumbInserted, crumbRemoved}
-use Rattle.multiset.proofs.MultisetLaws.{below-smaller, below-other, below-suc, below-le-length, length-added, length-removed}
-use Rattle.multiset.proofs.SlotLaws.{added-at, removed-at}
+use Rattle.multiset.proofs.MultisetLaws.{below-suc, below-le-length, below-copies, length-added, length-removed}
+use Rattle.multiset.proofs.SlotLaws.{added-at, removed-at, holds-from, holds-past, holds-copy}
 use Rattle.multiset.proofs.DigitLaws.{length-digits, length-spread, length-grouped, length-padded, length-highs, length-lows}
 use Rattle.minifilter.proofs.WordLaws.{word-opened, word-closed}
 use Rattle.minifilter.proofs.SlotBytes.{length-slotBytes}
 use Rattle.minifilter.proofs.FindLaws.{
+  highs-from,
+  highs-past,
   Keys,
   keys-run,
   word-lt,
@@ -51,36 +52,6 @@ use Rattle.minifilter.proofs.ShiftLaws.{
 }
 
 -- ---- word and tags
-
-below-nil : (x : ℕ) → below x [] ≡ 0
-unfolding below
-below-nil x = refl
-
-below-cons-le : (x y : ℕ) (ys : List ℕ) → below x ys ≤ below x (y ∷ ys)
-below-cons-le x y ys = elim (decLe x y) [ yes e ↦ omega (arith, below-other x y ys e) | no n ↦ omega (arith, below-smaller x y ys (omega arith)) ]
-
-below-cons-suc : (x y : ℕ) (ys : List ℕ) → below x (y ∷ ys) ≤ suc (below x ys)
-below-cons-suc x y ys = elim (decLe x y) [ yes e ↦ omega (arith, below-other x y ys e) | no n ↦ omega (arith, below-smaller x y ys (omega arith)) ]
-
-div-mono : (k x y : ℕ) → 0 < k → x ≤ y → x / k ≤ y / k
-div-mono k x y p h = le-div-iff-mul-le p .1 (omega (arith, div-mul-le-self x k))
-
--- members smaller than y, and than the next one, by their high parts
-pub highs-from : (k y : ℕ) (ys : List ℕ) → 0 < k → below (y / k) (highs k ys) ≤ below y ys
-highs-from k y [] p = omega (arith, below-nil (y / k))
-highs-from k y (x ∷ ys) p = elim (decLe y x) [
-  | yes e ↦ omega (arith, below-other (y / k) (x / k) (highs k ys) (div-mono k y x p e), below-other y x ys e, highs-from k y ys p)
-  | no n ↦ omega (arith, below-smaller y x ys (omega arith), below-cons-suc (y / k) (x / k) (highs k ys), highs-from k y ys p)
-]
-
-pub highs-past : (k y : ℕ) (ys : List ℕ) → 0 < k → below (suc y) ys ≤ below (suc (y / k)) (highs k ys)
-highs-past k y [] p = omega (arith, below-nil (suc y))
-highs-past k y (x ∷ ys) p = elim (decLe x y) [
-  | yes e ↦
-      let s : x / k < suc (y / k) = omega (arith, div-mono k x y p e) in
-      omega (arith, below-smaller (suc (y / k)) (x / k) (highs k ys) s, below-cons-suc (suc y) x ys, highs-past k y ys p)
-  | no n ↦ omega (arith, below-other (suc y) x ys (omega arith), below-cons-le (suc (y / k)) (x / k) (highs k ys), highs-past k y ys p)
-]
 
 -- the tags' bytes of keys
 abbrev tagPart : ℕ → List ℕ → List ℕ
@@ -232,17 +203,24 @@ module _ (b : List ℕ) (bytes : Below 256 b) (s : SoundFront b) where
       ∙ ap (λ (l : List ℕ). slotBytes layout1 28 l ++ frontRest xs) (sym (added-at x p xs (front-list b bytes s .order) (omega arith) (omega arith)))
       ∙ front-new (added x xs) (omega (arith, length-added x xs))
 
-  pub front-removed : (x : ℕ) → x < keys layout1 → 0 < copies x (frontList b)
-      → slotRemoved 64 (below x (frontList b)) (x / 65536) b ≡ frontBytes layout1 (removed x (frontList b))
-  front-removed x fit there =
+  pub front-lt : (x p : ℕ) → p < length (frontList b) → getD (frontList b) p 0 ≡ x → x < keys layout1
+  front-lt x p h there =
+      let l = front-list b bytes s in
+      below-copies (keys layout1) x (frontList b) (l .range) (holds-copy x p (frontList b) (l .order) h there)
+
+  pub front-removed : (x p : ℕ) → p < length (frontList b) → getD (frontList b) p 0 ≡ x
+      → slotRemoved 64 p (x / 65536) b ≡ frontBytes layout1 (removed x (frontList b))
+  front-removed x p h there =
       let xs : List ℕ = frontList b in
-      let p : ℕ = below x xs in
-      let next : below (suc x) xs ≡ p + copies x xs = below-suc x xs in
+      let list = front-list b bytes s in
+      let fit : x < keys layout1 = front-lt x p h there in
+      let from : below x xs ≤ p = holds-from x p xs (list .order) h there in
+      let past : p < below (suc x) xs = holds-past x p xs (list .order) h there in
       rw front-is at
-      (slots-removed 28 refl (lit≤ tt) xs (frontRest xs) (front-keys xs (front-list b bytes s)) (x / 65536) p (omega arith) (slot-from x xs)
+      (slots-removed 28 refl (lit≤ tt) xs (frontRest xs) (front-keys xs list) (x / 65536) p (omega arith) (omega (arith, slot-from x xs))
       (omega (arith, slot-past x xs)))
-      ∙ ap (λ (l : List ℕ). slotBytes layout1 28 l ++ frontRest xs) (sym (removed-at x p xs (front-list b bytes s .order) (omega arith) (omega arith)))
-      ∙ front-new (removed x xs) (omega (arith, length-removed x xs there, front-list b bytes s .room))
+      ∙ ap (λ (l : List ℕ). slotBytes layout1 28 l ++ frontRest xs) (sym (removed-at x p xs (list .order) from past))
+      ∙ front-new (removed x xs) (omega (arith, length-removed x xs (holds-copy x p xs (list .order) h there), list .room))
 
 module _ (b : List ℕ) (bytes : Below 256 b) (s : SoundBack b) where
   back-is : slotBytes layout1 22 (highs 16 (backList b)) ++ backRest (backList b) ≡ b
@@ -280,26 +258,33 @@ module _ (b : List ℕ) (bytes : Below 256 b) (s : SoundBack b) where
       (crumbs-inserted y p ys (omega arith) (omega (arith, below-le-length y ys)) ∙ ap backRest (sym new))
       ∙ sym (back-slots (added y ys))
 
-  pub back-removed : (y : ℕ) (b1 cs : List ℕ) → y < keys layout1 * 16 → 0 < copies y (backList b)
-      → b1 ≡ slotRemoved 52 (below y (backList b)) (y / 1048576) b → cs ≡ crumbRemoved (below y (backList b)) (take 12 (drop 52 b1))
+  pub back-lt : (y p : ℕ) → p < length (backList b) → getD (backList b) p 0 ≡ y → y < keys layout1 * 16
+  back-lt y p h there =
+      let l = back-list b bytes s in
+      below-copies (keys layout1 * 16) y (backList b) (l .range) (holds-copy y p (backList b) (l .order) h there)
+
+  pub back-removed : (y p : ℕ) (b1 cs : List ℕ) → p < length (backList b) → getD (backList b) p 0 ≡ y
+      → b1 ≡ slotRemoved 52 p (y / 1048576) b → cs ≡ crumbRemoved p (take 12 (drop 52 b1))
       → take 52 b1 ++ (cs ++ drop 12 (drop 52 b1)) ≡ backBytes layout1 (removed y (backList b))
-  back-removed y b1 cs fit there e q =
+  back-removed y p b1 cs h there e q =
       let ys : List ℕ = backList b in
       let xs : List ℕ = highs 16 ys in
-      let p : ℕ = below y ys in
-      let next : below (suc y) ys ≡ p + copies y ys = below-suc y ys in
+      let list = back-list b bytes s in
+      let fit : y < keys layout1 * 16 = back-lt y p h there in
+      let from : below y ys ≤ p = holds-from y p ys (list .order) h there in
+      let past : p < below (suc y) ys = holds-past y p ys (list .order) h there in
       let mini : y / 16 / 65536 ≡ y / 1048576 = div-div-eq-div-mul y 16 65536 in
-      let new : removed y ys ≡ take p ys ++ drop (suc p) ys = removed-at y p ys (back-list b bytes s .order) (omega arith) (omega arith) in
+      let new : removed y ys ≡ take p ys ++ drop (suc p) ys = removed-at y p ys (list .order) from past in
       let slots : b1 ≡ slotBytes layout1 22 (highs 16 (removed y ys)) ++ backRest ys =
       e ∙ rw (back-is, mini) at (slots-removed 22 refl (lit≤ tt) xs (backRest ys) keys-in (y / 16 / 65536) p (omega arith)
       (omega (arith, slot-from (y / 16) xs, highs-from 16 y ys (lit< tt))) (omega (arith, slot-past (y / 16) xs, highs-past 16 y ys (lit< tt))))
       ∙ ap (λ (l : List ℕ). slotBytes layout1 22 l ++ backRest ys) (sym (ap (highs 16) new ∙ map-removed (λ (x : ℕ). x / 16) p ys)) in
-      let room : length ys ≤ 22 = back-list b bytes s .room in
-      let less : length ys ≡ suc (length (removed y ys)) = length-removed y ys there in
+      let room : length ys ≤ 22 = list .room in
+      let less : length ys ≡ suc (length (removed y ys)) = length-removed y ys (holds-copy y p ys (list .order) h there) in
       crumbs-put b1 cs (slotBytes layout1 22 (highs 16 (removed y ys))) (backRest ys) (crumbRemoved p) slots
       (long-keys (removed y ys) (omega arith)) (long-rest ys) q
       ∙ ap (λ (l : List ℕ). slotBytes layout1 22 (highs 16 (removed y ys)) ++ l)
-      (crumbs-removed p ys (omega arith) (omega (arith, below-le-length (suc y) ys)) ∙ ap backRest (sym new))
+      (crumbs-removed p ys (omega arith) h ∙ ap backRest (sym new))
       ∙ sym (back-slots (removed y ys))
 
 pub crumbs-long : (b : List ℕ) → length b ≡ 64 → length (take 12 (drop 52 b)) ≡ 12

@@ -1,25 +1,36 @@
 -- Where a member stands in a sound bucket: what its word and slots hold of its members, and what a scan of one mini-bucket's slots finds.
--- Main results, for front and backyard alike: held, found-in.
+-- Main results, for front and backyard alike: held, rank-scanned, copies-scanned.
 use mathlib.Core.Path.{_≡_, refl, sym, ap, ap₂, _∙_}
 use Prim.Native.Nat.{ℕ, zero, suc, _+_, _*_, _/_, _%_, _-_, _^_, _≤_, _<_}
 use mathlib.Core.Bool.{Bool, true, false}
 use mathlib.Core.List.{List, [], _∷_, _++_}
-use native.Mathlib.Nat.{zero-div, mul-le-mul-right, div-lt-iff-lt-mul, lt-of-lt-of-le, pow-le-pow-right, div-add-mod', div-div-eq-div-mul, suc-mul}
+use native.Mathlib.Nat.{
+  zero-div,
+  mul-le-mul-right,
+  div-lt-iff-lt-mul,
+  lt-of-lt-of-le,
+  pow-le-pow-right,
+  div-add-mod',
+  div-mul-le-self,
+  le-div-iff-mul-le,
+  div-div-eq-div-mul,
+  suc-mul,
+}
 use native.Mathlib.Decide.{decLe, ℕ-discrete}
 use native.Mathlib.Omega.{arith, by-contra, both-ways}
 use lib.ListN.{length, take, drop, getD, replicate, List·getD-append}
 use lib.Seq.{drop-at, take-all}
 use lib.Count.{ones}
 use lib.Dec.{T, lit<, lit≤}
-use Rattle.multiset.specs.Multisets.{ascending, below, Below}
+use Rattle.multiset.specs.Multisets.{ascending, below, copies, Below}
 use Rattle.multiset.specs.Digits.{value, spread, grouped, padded, highs, lows}
 use Rattle.crumbmap.specs.Layouts.{layout1, keys, wordBytes}
 use Rattle.minifilter.specs.Words.{wordFrom}
-use Rattle.minifilter.specs.Buckets.{Fits64, slotBytes, frontBytes, backBytes, FrontList, BackList}
-use Rattle.minifilter.specs.Readings.{SoundFront, SoundBack, FoundIn, frontList, backList, minisOf, listOf}
+use Rattle.minifilter.specs.Buckets.{slotBytes, frontBytes, backBytes, FrontList, BackList}
+use Rattle.minifilter.specs.Readings.{SoundFront, SoundBack, frontList, backList, minisOf, listOf}
 use Rattle.minifilter.specs.Slots.{slotCount}
 use Rattle.minifilter.specs.Edits.{Sound, membersOf, spanOf, lowAt, Scanned}
-use Rattle.multiset.proofs.MultisetLaws.{below-le-length, below-suc}
+use Rattle.multiset.proofs.MultisetLaws.{below-le-length, below-smaller, below-other, below-suc}
 use Rattle.multiset.proofs.SlotLaws.{slot-below, slot-above}
 use Rattle.multiset.proofs.DigitLaws.{
   ascending-highs,
@@ -61,6 +72,36 @@ pub smaller-on : (f : ℕ → ℕ) (from slot low : ℕ) → ((i : ℕ) → from
     → (i : ℕ) → from ≤ i → i < slot + 1 → f i < low
 smaller-on f from slot low before here i h l = elim (ℕ-discrete i slot) [ yes e ↦ rw e here | no n ↦ before i h (omega arith) ]
 
+below-nil : (x : ℕ) → below x [] ≡ 0
+unfolding below
+below-nil x = refl
+
+below-cons-le : (x y : ℕ) (ys : List ℕ) → below x ys ≤ below x (y ∷ ys)
+below-cons-le x y ys = elim (decLe x y) [ yes e ↦ omega (arith, below-other x y ys e) | no n ↦ omega (arith, below-smaller x y ys (omega arith)) ]
+
+below-cons-suc : (x y : ℕ) (ys : List ℕ) → below x (y ∷ ys) ≤ suc (below x ys)
+below-cons-suc x y ys = elim (decLe x y) [ yes e ↦ omega (arith, below-other x y ys e) | no n ↦ omega (arith, below-smaller x y ys (omega arith)) ]
+
+div-mono : (k x y : ℕ) → 0 < k → x ≤ y → x / k ≤ y / k
+div-mono k x y p h = le-div-iff-mul-le p .1 (omega (arith, div-mul-le-self x k))
+
+-- members smaller than y, and than the next one, by their high parts
+pub highs-from : (k y : ℕ) (ys : List ℕ) → 0 < k → below (y / k) (highs k ys) ≤ below y ys
+highs-from k y [] p = omega (arith, below-nil (y / k))
+highs-from k y (x ∷ ys) p = elim (decLe y x) [
+  | yes e ↦ omega (arith, below-other (y / k) (x / k) (highs k ys) (div-mono k y x p e), below-other y x ys e, highs-from k y ys p)
+  | no n ↦ omega (arith, below-smaller y x ys (omega arith), below-cons-suc (y / k) (x / k) (highs k ys), highs-from k y ys p)
+]
+
+pub highs-past : (k y : ℕ) (ys : List ℕ) → 0 < k → below (suc y) ys ≤ below (suc (y / k)) (highs k ys)
+highs-past k y [] p = omega (arith, below-nil (suc y))
+highs-past k y (x ∷ ys) p = elim (decLe x y) [
+  | yes e ↦
+      let s : x / k < suc (y / k) = omega (arith, div-mono k x y p e) in
+      omega (arith, below-smaller (suc (y / k)) (x / k) (highs k ys) s, below-cons-suc (suc y) x ys, highs-past k y ys p)
+  | no n ↦ omega (arith, below-other (suc y) x ys (omega arith), below-cons-le (suc (y / k)) (x / k) (highs k ys), highs-past k y ys p)
+]
+
 -- ---- layout 1
 
 -- a word of 36 mini-buckets and up to 28 members
@@ -87,6 +128,10 @@ span-pos true = lit< tt
 pub span-le : (crumbs : Bool) → spanOf crumbs ≤ 1048576
 span-le false = lit≤ tt
 span-le true = lit≤ tt
+
+pub slots-le : (crumbs : Bool) → slotCount crumbs ≤ 28
+slots-le false = lit≤ tt
+slots-le true = lit≤ tt
 
 -- what a front bucket's and a backyard bucket's bytes are
 pub front-list : (b : List ℕ) → Below 256 b → SoundFront b → FrontList layout1 (frontList b)
@@ -168,6 +213,11 @@ pub record Held (crumbs : Bool) (b ys : List ℕ) : Type 0 where
   pub order : T (ascending ys)
   pub room : length ys ≤ slotCount crumbs
   pub low : (i : ℕ) → i < length ys → lowAt crumbs b i ≡ getD ys i 0 % spanOf crumbs
+
+-- the slots of mini-buckets before one are among those that a bucket has
+pub held-past : (crumbs : Bool) (b ys : List ℕ) → Held crumbs b ys → (mini : ℕ) → below mini (highs (spanOf crumbs) ys) ≤ slotCount crumbs
+held-past crumbs b ys h mini =
+    omega (arith, below-le-length mini (highs (spanOf crumbs) ys), length-highs (spanOf crumbs) ys, h .room)
 
 held-front : (xs : List ℕ) → FrontList layout1 xs → Held false (frontBytes layout1 xs) xs
 held-front xs f =
@@ -264,16 +314,36 @@ module _ (crumbs : Bool) (b ys : List ℕ) (h : Held crumbs b ys) (mini : ℕ) w
             (rw (h .low r l) at (s .here (omega arith)))
       ])
 
--- the two scans of a search: for the member, and, from there on, for the next larger one
-pub found-in : (crumbs : Bool) (b ys : List ℕ) → Held crumbs b ys → (mini low slot end : ℕ) → low < spanOf crumbs
+-- a scan of the mini-bucket's slots finds how many members are below one
+pub rank-scanned : (crumbs : Bool) (b ys : List ℕ) → Held crumbs b ys → (mini low slot : ℕ) → low < spanOf crumbs
     → Scanned crumbs b (below mini (highs (spanOf crumbs) ys)) (below (suc mini) (highs (spanOf crumbs) ys)) low slot
-    → Scanned crumbs b slot (below (suc mini) (highs (spanOf crumbs) ys)) (low + 1) end
-    → FoundIn (mini * spanOf crumbs + low) ys (record { slot = slot; copies = end - slot })
-found-in crumbs b ys h mini low slot end fit s t =
+    → slot ≡ below (mini * spanOf crumbs + low) ys
+rank-scanned crumbs b ys h mini low slot fit s =
+    sym (scanned-below crumbs b ys h mini low (below mini (highs (spanOf crumbs) ys)) slot (omega arith) (omega arith)
+    (λ i l. omega (arith, before-mini crumbs b ys h mini i l)) s)
+
+mini-of : (crumbs : Bool) (mini low : ℕ) → low < spanOf crumbs → (mini * spanOf crumbs + low) / spanOf crumbs ≡ mini
+mini-of false mini low h = omega arith
+mini-of true mini low h = omega arith
+
+-- the first slot that holds as much is one of the mini-bucket's, or the one past them
+pub rank-from : (crumbs : Bool) (ys : List ℕ) (mini low : ℕ) → low < spanOf crumbs
+    → below mini (highs (spanOf crumbs) ys) ≤ below (mini * spanOf crumbs + low) ys
+rank-from crumbs ys mini low h = rw (mini-of crumbs mini low h) at (highs-from (spanOf crumbs) (mini * spanOf crumbs + low) ys (span-pos crumbs))
+
+pub rank-past : (crumbs : Bool) (ys : List ℕ) (mini low : ℕ) → low < spanOf crumbs
+    → below (mini * spanOf crumbs + low) ys ≤ below (suc mini) (highs (spanOf crumbs) ys)
+rank-past crumbs ys mini low h =
     let x : ℕ = mini * spanOf crumbs + low in
-    let first : below x ys ≡ slot = scanned-below crumbs b ys h mini low (below mini (highs (spanOf crumbs) ys)) slot (omega arith) (omega arith)
-    (λ i l. omega (arith, before-mini crumbs b ys h mini i l)) s in
+    omega (arith, below-suc x ys, rw (mini-of crumbs mini low h) at (highs-past (spanOf crumbs) x ys (span-pos crumbs)))
+
+-- a scan from there for the next larger member finds the end of the copies
+pub copies-scanned : (crumbs : Bool) (b ys : List ℕ) → Held crumbs b ys → (mini low slot end : ℕ) → low < spanOf crumbs
+    → slot ≡ below (mini * spanOf crumbs + low) ys → Scanned crumbs b slot (below (suc mini) (highs (spanOf crumbs) ys)) (low + 1) end
+    → end - slot ≡ copies (mini * spanOf crumbs + low) ys
+copies-scanned crumbs b ys h mini low slot end fit e s =
+    let x : ℕ = mini * spanOf crumbs + low in
     let next : mini * spanOf crumbs + (low + 1) ≡ suc x = omega arith in
-    let last : below (mini * spanOf crumbs + (low + 1)) ys ≡ end = scanned-below crumbs b ys h mini (low + 1) slot end (omega arith) (s .start)
-    (λ i l. omega (arith, slot-below x i ys (h .order) (omega arith))) t in
-    record { from = sym first; many = omega (arith, below-suc x ys, ap (λ (z : ℕ). below z ys) next) }
+    let last : below (mini * spanOf crumbs + (low + 1)) ys ≡ end = scanned-below crumbs b ys h mini (low + 1) slot end (omega arith)
+    (omega (arith, rank-from crumbs ys mini low fit)) (λ i l. omega (arith, slot-below x i ys (h .order) (omega arith))) s in
+    omega (arith, below-suc x ys, ap (λ (z : ℕ). below z ys) next)

@@ -13,3 +13,4 @@ pub mod ListLaws
 pub mod CarryLaws
 pub mod ShiftLaws
 pub mod EditLaws
+pub mod WriteLaws

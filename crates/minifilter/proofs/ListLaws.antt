@@ -1,6 +1,6 @@
 -- The members of a sound bucket one by one: the zeros of its word in turn, the one of a given slot, the highest; its keys, all of them and
 -- those that carry a crumb.
--- Main results: member-select, last-leading, turn, listed-yes, listed-no, carrying-first.
+-- Main results: member-select, last-leading, turn, listed-yes, listed-no, carrying-first, member-stored.
 use mathlib.Core.Path.{_≡_, refl, sym, ap, _∙_}
 use Prim.Native.Nat.{ℕ, zero, suc, _+_, _*_, _/_, _%_, _-_, _^_, _≤_, _<_}
 use mathlib.Core.Bool.{Bool, true, false}
@@ -10,7 +10,7 @@ use native.Mathlib.Numerals.{add-one}
 use native.Mathlib.Decide.{ℕ-discrete}
 use native.Mathlib.Omega.{arith}
 use lib.ListN.{length, take, drop, set, getD, List·getD-append, length-append}
-use lib.Seq.{take-suc, drop-cons, set-at, append-snoc}
+use lib.Seq.{take-suc, drop-cons, set-at, append-snoc, length-take-le}
 use lib.Count.{leadingZeros, trailingZeros, ones, leading-unique}
 use lib.Bits.{bitAnd}
 use lib.Dec.{lit<}
@@ -263,3 +263,21 @@ module _ (crumbs : Bool) (c : ℕ) (b ys : List ℕ) (h : Held crumbs b ys) (slo
         many = rw (more, length-append ws (key ∷ [])) (ap (λ (k : ℕ). k + 1) (s .many));
         keys = rw more (ap (λ (o : List ℕ). set o n key) (s .keys) ∙ store ws before n key (sym (s .many)) room);
       }
+
+-- ---- all members of a backyard bucket
+
+module _ (b ys : List ℕ) (h : Held true b ys) (i : ℕ) (l : i < length ys) where
+  pub held-lt : getD ys i 0 < 37748736
+  held-lt =
+      let len : length (highs 1048576 ys) ≡ length ys = length-highs 1048576 ys in
+      let mini : getD (highs 1048576 ys) i 0 < 36 = gap-below 36 64 (highs 1048576 ys) (coded-run (h .coded)) (omega (arith, h .room)) i (omega arith) in
+      omega (arith, getD-highs 1048576 i ys)
+
+  pub held-member : (key crumb : ℕ) → key ≡ getD ys i 0 / 16 → crumb ≡ getD (spread 16 2 (drop 52 b)) i 0 → key * 16 + crumb ≡ getD ys i 0
+  held-member key crumb e q = omega (arith, held-crumb b ys h i l)
+
+pub member-stored : (ys out before : List ℕ) (slot v : ℕ) → slot < length ys → slot < length before → out ≡ take slot ys ++ drop slot before
+    → v ≡ getD ys slot 0 → set out slot v ≡ take (slot + 1) ys ++ drop (slot + 1) before
+member-stored ys out before slot v l room e q =
+    let more : take (slot + 1) ys ≡ take slot ys ++ (v ∷ []) = rw (add-one slot, q) (take-suc ys slot 0 l) in
+    rw more (ap (λ (o : List ℕ). set o slot v) e ∙ store (take slot ys) before slot v (length-take-le slot ys (omega arith)) room)

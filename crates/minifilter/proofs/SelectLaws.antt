@@ -1,11 +1,10 @@
 -- Select over a word by its bytes (`select-hit`, `select-pass`, `select-low`, `ones-low`), and what it finds in a bucket's word:
--- the end of a mini-bucket (`select-coded`), and with the zeros behind it the slots of the next one (`trailing-coded`).
+-- the end of a mini-bucket (`select-coded`), and by the zeros from a slot's place what is left of its mini-bucket (`trailing-coded`).
 -- The rule of the select table is `listed-entry`.
 use mathlib.Core.Path.{_≡_, refl, sym, ap, _∙_}
-use mathlib.Core.Logic.{⊎-elim}
 use Prim.Native.Nat.{ℕ, zero, suc, _+_, _-_, _*_, _/_, _%_, _^_, _≤_, _<_}
-use mathlib.Core.List.{List, _∷_}
-use native.Mathlib.Nat.{zero-add, add-zero, add-suc, suc-add, sub-zero, eq-or-lt-of-le}
+use mathlib.Core.List.{List}
+use native.Mathlib.Nat.{zero-add, add-zero, add-suc, suc-add, sub-zero}
 use native.Mathlib.Numerals.{add-one}
 use native.Mathlib.Omega.{arith}
 use lib.ListN.{length, getD}
@@ -16,7 +15,20 @@ use Rattle.multiset.specs.Digits.{value}
 use Rattle.minifilter.specs.Select.{above, selectIn, listed, pairs}
 use Rattle.minifilter.specs.Readings.{minisOf}
 use Rattle.multiset.proofs.MultisetLaws.{below-le-length}
-use Rattle.minifilter.proofs.WordLaws.{Coded, done, member, end, coded-run, shr-suc, below-run, below-cons-lt, coded-minisOf}
+use Rattle.minifilter.proofs.WordLaws.{
+  Coded,
+  done,
+  member,
+  end,
+  coded-run,
+  shr-suc,
+  below-run,
+  below-cons-lt,
+  slot-up,
+  slot-first,
+  past-end,
+  coded-minisOf,
+}
 
 -- ---- a rank among the k lowest bits, and one above them
 
@@ -137,36 +149,32 @@ select-coded (suc bits) x (suc r) (end {w = w} c) h e f =
     let b : (1 + 2 * w) / 2 ≡ w = omega arith in
     rw (a, b) (omega (arith, select-coded bits x r c (omega arith) (omega arith) (omega arith)))
 
--- a place above bit 0 belongs to a later mini-bucket than m, unless members in front of it make up for it
-later : (m x b pos : ℕ) → m ≤ x → suc pos + m ≡ x + b → (m ≡ x → b ≡ 0) → m < x
-later m x b pos g e z = ⊎-elim (λ (k : m ≡ x). absurd (omega (arith, z k))) (λ (l : m < x). l) (eq-or-lt-of-le g)
-
--- mini-bucket x starts at bit x + below x ms, with a zero for each of its members
-pub trailing-coded : {n m : ℕ} {ms : List ℕ} {w : ℕ} (bits x pos : ℕ) → Coded n m ms w → m ≤ x → x < m + n → pos + m ≡ x + below x ms
-    → n + length ms ≤ bits → below x ms + trailingZeros bits (w / 2 ^ pos) ≡ below (suc x) ms
+-- from bit x + p, slot p of mini-bucket x or the end behind its slots, a zero for each member from there on
+pub trailing-coded : {n m : ℕ} {ms : List ℕ} {w : ℕ} (bits x p pos : ℕ) → Coded n m ms w → m ≤ x → x < m + n → pos + m ≡ x + p
+    → below x ms ≤ p → p ≤ below (suc x) ms → n + length ms ≤ bits → p + trailingZeros bits (w / 2 ^ pos) ≡ below (suc x) ms
 unfolding trailingZeros
-trailing-coded bits x pos done g h e f = absurd (omega arith)
-trailing-coded zero x zero (member c) g h e f = absurd (omega arith)
-trailing-coded (suc bits) x zero (member {n = n} {m = m} {ms = ms} {w = w} c) g h e f =
+trailing-coded bits x p pos done g h e l u f = absurd (omega arith)
+trailing-coded zero x p zero (member c) g h e l u f = absurd (omega arith)
+trailing-coded (suc bits) x p zero (member {n = n} {m = m} {ms = ms} {w = w} c) g h e l u f =
     let z = below-run x m (m + suc n) ms (omega arith) (coded-run c) in
     let a : 2 * w / 1 % 2 ≡ 0 = omega arith in
     let b : 2 * w / 1 / 2 ≡ w / 1 = omega arith in
     let s = below-cons-lt (suc x) m ms (omega arith) in
-    rw (a, b) (omega (arith, trailing-coded bits x 0 c g h (omega arith) (omega arith)))
-trailing-coded bits x (suc pos) (member {n = n} {m = m} {ms = ms} {w = w} c) g h e f =
-    let l : m < x = later m x (below x (m ∷ ms)) pos g e (λ k. below-run x m (m + suc n) (m ∷ ms) (omega arith) (coded-run (member c))) in
+    rw (a, b) (omega (arith, trailing-coded bits x p 0 c g h e (omega arith) (omega arith) (omega arith)))
+trailing-coded bits x zero (suc pos) (member {m = m} {ms = ms} c) g h e l u f = absurd (omega (arith, slot-first m x ms g l))
+trailing-coded bits x (suc p) (suc pos) (member {n = n} {m = m} {ms = ms} {w = w} c) g h e l u f =
     let b : 2 * w / 2 ≡ w = omega arith in
     let s = below-cons-lt (suc x) m ms (omega arith) in
-    let t = below-cons-lt x m ms l in
-    rw (shr-suc pos (2 * w), b) (omega (arith, trailing-coded bits x pos c g h (omega arith) (omega arith)))
-trailing-coded zero x zero (end c) g h e f = absurd (omega arith)
-trailing-coded (suc bits) x zero (end {n = n} {m = m} {ms = ms} {w = w} c) g h e f =
+    let t = slot-up m x p (m + suc n) ms (coded-run c) g l in
+    rw (shr-suc pos (2 * w), b) (omega (arith, trailing-coded bits x p pos c g h (omega arith) t (omega arith) (omega arith)))
+trailing-coded zero x p zero (end c) g h e l u f = absurd (omega arith)
+trailing-coded (suc bits) x p zero (end {n = n} {m = m} {ms = ms} {w = w} c) g h e l u f =
     let a : (1 + 2 * w) / 1 % 2 ≡ 1 = omega arith in
     rw a (omega (arith, below-run (suc x) (suc m) (suc m + n) ms (omega arith) (coded-run c)))
-trailing-coded bits x (suc pos) (end {n = n} {m = m} {ms = ms} {w = w} c) g h e f =
-    let l : m < x = later m x (below x ms) pos g e (λ k. below-run x (suc m) (suc m + n) ms (omega arith) (coded-run c)) in
+trailing-coded bits x p (suc pos) (end {n = n} {m = m} {ms = ms} {w = w} c) g h e l u f =
+    let k : suc m ≤ x = past-end n m x p pos ms (coded-run c) g e u in
     let b : (1 + 2 * w) / 2 ≡ w = omega arith in
-    rw (shr-suc pos (1 + 2 * w), b) (trailing-coded bits x pos c l (omega arith) (omega arith) (omega arith))
+    rw (shr-suc pos (1 + 2 * w), b) (trailing-coded bits x p pos c k (omega arith) (omega arith) l u (omega arith))
 
 -- mini-bucket m's end in a whole word
 pub select-ends : {n : ℕ} {ms : List ℕ} {w : ℕ} (bits m : ℕ) → Coded n 0 ms w → m < n → n + length ms ≤ bits
@@ -185,11 +193,13 @@ module _ (w m : ℕ) (l : w < 2 ^ 64) (h : ones w ≡ 36) (k : m < 36) where
       let e : suc (m - 1) ≡ m = omega arith in
       omega (arith, rw e at (select-ends 64 (m - 1) (c .0) (omega arith) (c .1)))
 
-  pub place-minisOf : m + below m (minisOf w) < 64
-  place-minisOf = let c = coded-minisOf w l h in omega (arith, below-le-length m (minisOf w))
+  -- a slot's place is one of the 64 bits
+  pub place-minisOf : (slot : ℕ) → slot ≤ below (suc m) (minisOf w) → m + slot < 64
+  place-minisOf slot u = let c = coded-minisOf w l h in omega (arith, below-le-length (suc m) (minisOf w))
 
-  pub past-minisOf : (place : ℕ) → place ≡ m + below m (minisOf w)
-      → (place - m) + trailingZeros 64 (w / 2 ^ place) ≡ below (suc m) (minisOf w)
-  past-minisOf place e =
+  -- the zeros from a slot's place are those of the mini-bucket's slots from there on
+  pub rest-minisOf : (slot : ℕ) → below m (minisOf w) ≤ slot → slot ≤ below (suc m) (minisOf w)
+      → slot + trailingZeros 64 (w / 2 ^ (m + slot)) ≡ below (suc m) (minisOf w)
+  rest-minisOf slot g u =
       let c = coded-minisOf w l h in
-      omega (arith, trailing-coded 64 m place (c .0) (omega arith) (omega arith) (omega arith) (c .1))
+      trailing-coded 64 m slot (m + slot) (c .0) (omega arith) (omega arith) (omega arith) g u (c .1)

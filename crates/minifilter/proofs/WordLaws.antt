@@ -277,14 +277,14 @@ unfolding below
 below-cons-lt x y ys h = rw (lt-ltb y x h)
 
 -- slot p of mini-bucket x, behind one more member of m
-slot-up : (m x p hi : ℕ) (ms : List ℕ) → Run m hi ms → m ≤ x → below x (m ∷ ms) ≤ suc p → below x ms ≤ p
+pub slot-up : (m x p hi : ℕ) (ms : List ℕ) → Run m hi ms → m ≤ x → below x (m ∷ ms) ≤ suc p → below x ms ≤ p
 slot-up m x p hi ms r g h =
     ⊎-elim
     (λ (e : m ≡ x). omega (arith, below-run x m hi ms (omega arith) r))
     (λ (l : m < x). omega (arith, below-cons-lt x m ms l))
     (eq-or-lt-of-le g)
 
-slot-first : (m x : ℕ) (ms : List ℕ) → m ≤ x → below x (m ∷ ms) ≤ 0 → x ≡ m
+pub slot-first : (m x : ℕ) (ms : List ℕ) → m ≤ x → below x (m ∷ ms) ≤ 0 → x ≡ m
 slot-first m x ms g h =
     ⊎-elim
     (λ (e : m ≡ x). sym e)
@@ -292,7 +292,7 @@ slot-first m x ms g h =
     (eq-or-lt-of-le g)
 
 -- a place above that of mini-bucket m's end is one of a later mini-bucket
-past-end : (n m x p pos : ℕ) (ms : List ℕ) → Run (suc m) (suc m + n) ms → m ≤ x → suc pos + m ≡ x + p → p ≤ below (suc x) ms → suc m ≤ x
+pub past-end : (n m x p pos : ℕ) (ms : List ℕ) → Run (suc m) (suc m + n) ms → m ≤ x → suc pos + m ≡ x + p → p ≤ below (suc x) ms → suc m ≤ x
 past-end n m x p pos ms r g e u =
     ⊎-elim
     (λ (k : m ≡ x). absurd (omega (arith, below-run (suc x) (suc m) (suc m + n) ms (omega arith) r)))

@@ -4,21 +4,20 @@ use Prim.Native.Nat.{ℕ}
 use mathlib.Core.List.{List, [], _∷_}
 use mathlib.Core.Option.{Option, none, some}
 use lib.ListN.{length, drop}
-use Rattle.multiset.specs.Multisets.{below, copies}
+use Rattle.multiset.specs.Multisets.{below}
 use Rattle.multiset.specs.Digits.{spread, joined}
 use Rattle.crumbmap.specs.Layouts.{layout1}
 use Rattle.minifilter.specs.Words.{minisFrom}
 use Rattle.minifilter.specs.Buckets.{slotKeys, frontMembers, backMembers}
 use Rattle.minifilter.specs.declared.Reading.{Reading}
 use Rattle.minifilter.specs.declared.Reading.the-variants.{Members, Unsound}
-use Rattle.minifilter.specs.declared.Found.{Found}
 use Rattle.minifilter.specs.declared.Carried.{Carried}
 use Rattle.minifilter.specs.declared.Carried.the-variants.{Key, Nothing}
 
--- "its member count, or unsound"
-abbrev pub readingOf : Option (List ℕ) → Reading
-readingOf none = Unsound
-readingOf (some xs) = Members (length xs)
+-- "its member count, or unsound", and how many members are below x
+abbrev pub readingOf : ℕ → Option (List ℕ) → Reading
+readingOf x none = Unsound
+readingOf x (some xs) = Members (length xs) (below x xs)
 
 -- the list that was found, [] where none was
 abbrev pub listOf : Option (List ℕ) → List ℕ
@@ -47,11 +46,6 @@ pub record SoundBack (b : List ℕ) : Type 0 where
   pub bucket : ℕ
   pub long : length b ≡ 64
   pub sound : backMembers layout1 size bucket b ≡ some (backList b)
-
--- "the lowest slot" of x among the members xs, "and the number of equal copies there"
-pub record FoundIn (x : ℕ) (xs : List ℕ) (r : Found) : Type 0 where
-  pub from : r .slot ≡ below x xs
-  pub many : r .copies ≡ copies x xs
 
 -- the head of a list of keys
 abbrev pub firstOf : List ℕ → Carried

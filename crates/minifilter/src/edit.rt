@@ -1,12 +1,11 @@
 // Insert and remove of one member in place, and the empty bucket.
 
-use crate::find;
 use crate::word;
 ghost use mathlib.Core.Path.{_≡_};
 ghost use Prim.Native.Nat.{_+_, _*_, _/_, _%_, _^_, _<_, _≤_};
 ghost use mathlib.Core.List.{[]};
-ghost use lib.ListN.{length, take, replicate};
-ghost use Rattle.multiset.specs.Multisets.{added, removed, copies};
+ghost use lib.ListN.{length, take, getD, replicate};
+ghost use Rattle.multiset.specs.Multisets.{added, removed, below};
 ghost use Rattle.multiset.specs.Digits.{digits, value};
 ghost use Rattle.crumbmap.specs.Layouts.{layout1, keys};
 ghost use Rattle.minifilter.specs.Buckets.{frontBytes, backBytes};
@@ -136,42 +135,36 @@ fn remove_slot(b: &mut [u8], end: usize, slot: usize, mini: u32)
     word::put_word(b, word::close_bit(word, mini + (slot as u32)));
 }
 
-// A key joins a front bucket that has a free slot.
-pub fn insert_front(b: &mut [u8], key: u32)
-    requires { ⌜ SoundFront (now b) × (length (frontList (now b)) < 28) × (key < keys layout1) ⌝ }
+// A key joins a front bucket that has a free slot, behind the members below it.
+pub fn insert_front(b: &mut [u8], slot: usize, key: u32)
+    requires { ⌜ SoundFront (now b) × (length (frontList (now b)) < 28) × (key < keys layout1) × (slot ≡ below key (frontList (now b))) ⌝ }
     ensures { λ _. ⌜ now (b .exit) ≡ frontBytes layout1 (added key (frontList (now (b .entry)))) ⌝ }
 {
-    let found = find::find_front(b, key);
-    insert_slot(b, 64, found.slot, key);
+    insert_slot(b, 64, slot, key);
 }
 
-// One copy of a key that is there leaves a front bucket.
-pub fn remove_front(b: &mut [u8], key: u32)
-    requires { ⌜ SoundFront (now b) × (0 < copies key (frontList (now b))) × (key < keys layout1) ⌝ }
+// The key at a slot leaves a front bucket.
+pub fn remove_front(b: &mut [u8], slot: usize, key: u32)
+    requires { ⌜ SoundFront (now b) × (slot < length (frontList (now b))) × (getD (frontList (now b)) slot 0 ≡ key) ⌝ }
     ensures { λ _. ⌜ now (b .exit) ≡ frontBytes layout1 (removed key (frontList (now (b .entry)))) ⌝ }
 {
-    let found = find::find_front(b, key);
-    remove_slot(b, 64, found.slot, key / 65_536);
+    remove_slot(b, 64, slot, key / 65_536);
 }
 
-// A member, key × 16 + crumb, joins a backyard bucket that has a free slot.
-pub fn insert_back(b: &mut [u8], member: u32)
-    requires { ⌜ SoundBack (now b) × (length (backList (now b)) < 22) × (member < keys layout1 * 16) ⌝ }
+// A member, key × 16 + crumb, joins a backyard bucket that has a free slot, behind the members below it.
+pub fn insert_back(b: &mut [u8], slot: usize, member: u32)
+    requires { ⌜ SoundBack (now b) × (length (backList (now b)) < 22) × (member < keys layout1 * 16) × (slot ≡ below member (backList (now b))) ⌝ }
     ensures { λ _. ⌜ now (b .exit) ≡ backBytes layout1 (added member (backList (now (b .entry)))) ⌝ }
 {
-    let found = find::find_back(b, member);
-    let slot = found.slot;
     insert_slot(b, 52, slot, member / 16);
     insert_crumb(&mut b[52..64], slot, member % 16);
 }
 
-// One copy of a member that is there leaves a backyard bucket.
-pub fn remove_back(b: &mut [u8], member: u32)
-    requires { ⌜ SoundBack (now b) × (0 < copies member (backList (now b))) × (member < keys layout1 * 16) ⌝ }
+// The member at a slot leaves a backyard bucket.
+pub fn remove_back(b: &mut [u8], slot: usize, member: u32)
+    requires { ⌜ SoundBack (now b) × (slot < length (backList (now b))) × (getD (backList (now b)) slot 0 ≡ member) ⌝ }
     ensures { λ _. ⌜ now (b .exit) ≡ backBytes layout1 (removed member (backList (now (b .entry)))) ⌝ }
 {
-    let found = find::find_back(b, member);
-    let slot = found.slot;
     remove_slot(b, 52, slot, member / 1_048_576);
     remove_crumb(&mut b[52..64], slot);
 }

@@ -1,7 +1,6 @@
 // What a sound bucket holds: where a member stands, the largest, the member at a slot, all in order, those that carry a crumb.
 
 use crate::Carried;
-use crate::Found;
 use crate::select;
 use crate::slots;
 use crate::word;
@@ -10,11 +9,11 @@ ghost use Prim.Native.Nat.{_+_, _*_, _-_, _<_, _≤_};
 ghost use mathlib.Core.List.{_++_};
 ghost use lib.ListN.{length, drop, getD};
 ghost use lib.Count.{trailingZeros};
-ghost use Rattle.multiset.specs.Multisets.{largest};
+ghost use Rattle.multiset.specs.Multisets.{below, copies, largest};
 ghost use Rattle.multiset.specs.Digits.{grouped};
 ghost use Rattle.crumbmap.specs.Layouts.{layout1, keys};
 ghost use Rattle.minifilter.specs.Buckets.{carrying};
-ghost use Rattle.minifilter.specs.Readings.{SoundFront, SoundBack, frontList, backList, FoundIn, firstOf};
+ghost use Rattle.minifilter.specs.Readings.{SoundFront, SoundBack, frontList, backList, firstOf};
 ghost use Rattle.minifilter.specs.Slots.{slotCount};
 ghost use Rattle.minifilter.specs.Edits.{Sound, membersOf, spanOf, lowAt, Scanned, FirstWith, wantedAt, chosen};
 
@@ -46,35 +45,54 @@ fn scan(b: &[u8], crumbs: bool, from: usize, past: usize, low: u32) -> usize
     slot
 }
 
-// A member in a bucket of either kind: the slots that hold it are those from the first that holds as much to the first that holds more.
-fn find_in(b: &[u8], crumbs: bool, mini: u32, low: u32) -> Found
+// How many members of a bucket of either kind are below one: those of the mini-buckets before its own, and in its own up to the first slot
+// that holds as much.
+fn rank_in(b: &[u8], crumbs: bool, mini: u32, low: u32) -> usize
     requires { ⌜ Sound crumbs (now b) × (mini < 36) × (low < spanOf crumbs) ⌝ }
-    ensures { λ r. ⌜ FoundIn (mini * spanOf crumbs + low) (membersOf crumbs (now (b .entry))) r ⌝ }
+    ensures { λ r. ⌜ r ≡ below (mini * spanOf crumbs + low) (membersOf crumbs (now (b .entry))) ⌝ }
 {
     let slots = word::bounds(word::word_of(b), mini);
-    let past = slots.past;
-    let slot = scan(b, crumbs, slots.from, past, low);
-    let end = scan(b, crumbs, slot, past, low + 1);
-    Found {
-        slot: slot,
-        copies: end - slot,
-    }
+    scan(b, crumbs, slots.from, slots.past, low)
 }
 
-// A key in a front bucket.
-pub fn find_front(b: &[u8], key: u32) -> Found
+// The same for a key in a front bucket, and for a member, key × 16 + crumb, in a backyard bucket.
+pub fn rank_front(b: &[u8], key: u32) -> usize
     requires { ⌜ SoundFront (now b) × (key < keys layout1) ⌝ }
-    ensures { λ r. ⌜ FoundIn key (frontList (now (b .entry))) r ⌝ }
+    ensures { λ r. ⌜ r ≡ below key (frontList (now (b .entry))) ⌝ }
 {
-    find_in(b, false, key / 65_536, key % 65_536)
+    rank_in(b, false, key / 65_536, key % 65_536)
 }
 
-// A member, key × 16 + crumb, in a backyard bucket.
-pub fn find_back(b: &[u8], member: u32) -> Found
+pub fn rank_back(b: &[u8], member: u32) -> usize
     requires { ⌜ SoundBack (now b) × (member < keys layout1 * 16) ⌝ }
-    ensures { λ r. ⌜ FoundIn member (backList (now (b .entry))) r ⌝ }
+    ensures { λ r. ⌜ r ≡ below member (backList (now (b .entry))) ⌝ }
 {
-    find_in(b, true, member / 1_048_576, member % 1_048_576)
+    rank_in(b, true, member / 1_048_576, member % 1_048_576)
+}
+
+// The copies of a member, which stand from slot `slot` on. The zeros of the word from that slot's place are the rest of its mini-bucket.
+fn copies_in(b: &[u8], crumbs: bool, slot: usize, mini: u32, low: u32) -> usize
+    requires { ⌜ Sound crumbs (now b) × (mini < 36) × (low < spanOf crumbs)
+        × (slot ≡ below (mini * spanOf crumbs + low) (membersOf crumbs (now b))) ⌝ }
+    ensures { λ r. ⌜ r ≡ copies (mini * spanOf crumbs + low) (membersOf crumbs (now (b .entry))) ⌝ }
+{
+    let past = slot + word::rest(word::word_of(b), mini, slot);
+    scan(b, crumbs, slot, past, low + 1) - slot
+}
+
+// The same for a key in a front bucket, and for a member in a backyard bucket.
+pub fn copies_front(b: &[u8], slot: usize, key: u32) -> usize
+    requires { ⌜ SoundFront (now b) × (key < keys layout1) × (slot ≡ below key (frontList (now b))) ⌝ }
+    ensures { λ r. ⌜ r ≡ copies key (frontList (now (b .entry))) ⌝ }
+{
+    copies_in(b, false, slot, key / 65_536, key % 65_536)
+}
+
+pub fn copies_back(b: &[u8], slot: usize, member: u32) -> usize
+    requires { ⌜ SoundBack (now b) × (member < keys layout1 * 16) × (slot ≡ below member (backList (now b))) ⌝ }
+    ensures { λ r. ⌜ r ≡ copies member (backList (now (b .entry))) ⌝ }
+{
+    copies_in(b, true, slot, member / 1_048_576, member % 1_048_576)
 }
 
 // The largest key of a front bucket that holds 28: above its zero the word has ones alone, one for each mini-bucket from its own on.
@@ -98,21 +116,6 @@ fn member_in(b: &[u8], crumbs: bool, slot: usize) -> u32
         return mini * 1_048_576 + low;
     }
     mini * 65_536 + low
-}
-
-// The key at a slot in use of a front bucket, and the member at one of a backyard bucket.
-pub fn member_front(b: &[u8], slot: usize) -> u32
-    requires { ⌜ SoundFront (now b) × (slot < length (frontList (now b))) ⌝ }
-    ensures { λ r. ⌜ r ≡ getD (frontList (now (b .entry))) slot 0 ⌝ }
-{
-    member_in(b, false, slot)
-}
-
-pub fn member_back(b: &[u8], slot: usize) -> u32
-    requires { ⌜ SoundBack (now b) × (slot < length (backList (now b))) ⌝ }
-    ensures { λ r. ⌜ r ≡ getD (backList (now (b .entry))) slot 0 ⌝ }
-{
-    member_in(b, true, slot)
 }
 
 // The key of the slot whose zero is the lowest of `zeros`.
@@ -173,6 +176,23 @@ pub fn list_carrying(b: &[u8], crumb: u32, out: &mut [u32]) -> usize
         × (now (out .exit) ≡ carrying crumb (backList (now (b .entry))) ++ drop r (now (out .entry))) ⌝ }
 {
     list_in(b, true, crumb, out)
+}
+
+// All members of a backyard bucket, in order, into the start of `out`; how many.
+pub fn list_back(b: &[u8], out: &mut [u32]) -> usize
+    requires { ⌜ SoundBack (now b) × (length (now out) ≡ 22) ⌝ }
+    ensures { λ r. ⌜ (r ≡ length (backList (now (b .entry)))) × (now (out .exit) ≡ backList (now (b .entry)) ++ drop r (now (out .entry))) ⌝ }
+{
+    let word = word::word_of(b);
+    let members = word::occupancy(word);
+    let mut zeros = !word;
+    let mut slot: usize = 0;
+    while slot < members {
+        out[slot] = key_at(b, zeros, slot) * 16 + slots::crumb_of(b, slot);
+        zeros = zeros & (zeros - 1);
+        slot += 1;
+    }
+    slot
 }
 
 // The first of the slots in use that holds a crumb.

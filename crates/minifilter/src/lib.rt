@@ -6,17 +6,18 @@ pub mod read;
 pub mod select;
 pub mod slots;
 pub mod word;
+pub mod write;
 
-// What reading a bucket whole finds: "its member count, or unsound".
+// What reading a bucket whole finds: "its member count, or unsound"; beside the count, how many members are below the one that is sought.
 pub enum Reading {
-    Members(usize),
+    Members(usize, usize),
     Unsound,
 }
 
-// Where a member stands: its lowest slot, and how many equal ones stand from there.
-pub struct Found {
-    pub slot: usize,
-    pub copies: usize,
+// What a pass over all slots finds: how many are below the member that is sought, where they ascend.
+pub(crate) enum Order {
+    Below(usize),
+    Broken,
 }
 
 // The lowest key among a backyard bucket's members that carry a crumb.

@@ -1,5 +1,6 @@
 // The reader: a bucket is first read whole, and is its member count or unsound.
 
+use crate::Order;
 use crate::Reading;
 use crate::slots;
 use crate::word;
@@ -7,29 +8,29 @@ use crumbmap::Backyard;
 use crumbmap::valid;
 ghost use mathlib.Core.Path.{_≡_};
 ghost use mathlib.Core.Bool.{true};
-ghost use Prim.Native.Nat.{_+_, _*_, _<_, _≤_};
+ghost use Prim.Native.Nat.{_+_, _*_, _%_, _<_, _≤_};
 ghost use lib.ListN.{length, take, drop, getD};
 ghost use lib.Count.{ones};
 ghost use Rattle.multiset.specs.Digits.{grouped};
-ghost use Rattle.crumbmap.specs.Layouts.{layout1, backyards};
+ghost use Rattle.crumbmap.specs.Layouts.{layout1, keys, backyards};
 ghost use Rattle.minifilter.specs.Buckets.{frontMembers, backMembers};
 ghost use Rattle.minifilter.specs.Readings.{readingOf};
-ghost use Rattle.minifilter.specs.Slots.{slotCount, slotCrumbs, inOrder, slotList, marked};
+ghost use Rattle.minifilter.specs.Slots.{slotCount, slotCrumbs, memberOf, endOf, slotMembers, inOrder, orderOf, slotList, marked};
 
 // A front bucket.
-pub fn read_front(b: &[u8]) -> Reading
-    requires { ⌜ length (now b) ≡ 64 ⌝ }
-    ensures { λ r. ⌜ r ≡ readingOf (frontMembers layout1 (now (b .entry))) ⌝ }
+pub fn read_front(b: &[u8], key: u32) -> Reading
+    requires { ⌜ (length (now b) ≡ 64) × (key < keys layout1) ⌝ }
+    ensures { λ r. ⌜ r ≡ readingOf key (frontMembers layout1 (now (b .entry))) ⌝ }
 {
-    read_slots(b, 28, false)
+    read_slots(b, 28, false, key)
 }
 
 // Backyard bucket `bucket` of an image of size `size`.
-pub fn read_back(b: &[u8], size: usize, bucket: Backyard) -> Reading
-    requires { ⌜ (length (now b) ≡ 64) × (size ≤ 65536) × (bucket .0 < backyards size) ⌝ }
-    ensures { λ r. ⌜ r ≡ readingOf (backMembers layout1 size (bucket .0) (now (b .entry))) ⌝ }
+pub fn read_back(b: &[u8], size: usize, bucket: Backyard, member: u32) -> Reading
+    requires { ⌜ (length (now b) ≡ 64) × (size ≤ 65536) × (bucket .0 < backyards size) × (member < keys layout1 * 16) ⌝ }
+    ensures { λ r. ⌜ r ≡ readingOf member (backMembers layout1 size (bucket .0) (now (b .entry))) ⌝ }
 {
-    let Reading::Members(members) = read_slots(b, 22, true) else {
+    let Reading::Members(members, below) = read_slots(b, 22, true, member) else {
         return Reading::Unsound;
     };
     if b[63] != 0 {
@@ -37,15 +38,15 @@ pub fn read_back(b: &[u8], size: usize, bucket: Backyard) -> Reading
     }
     let marks = valid::valid_crumbs(size, bucket);
     if crumbs_marked(b, members, marks) {
-        return Reading::Members(members);
+        return Reading::Members(members, below);
     }
     Reading::Unsound
 }
 
 // A bucket's word and slots: "its word has exactly 36 ones, members fit the slots and ascend, unused bytes and halves are 0".
-fn read_slots(b: &[u8], slots: usize, crumbs: bool) -> Reading
-    requires { ⌜ (length (now b) ≡ 64) × (21 ≤ slots) × (slots ≤ slotCount crumbs) ⌝ }
-    ensures { λ r. ⌜ r ≡ readingOf (slotList crumbs slots (now (b .entry))) ⌝ }
+fn read_slots(b: &[u8], slots: usize, crumbs: bool, sought: u32) -> Reading
+    requires { ⌜ (length (now b) ≡ 64) × (21 ≤ slots) × (slots ≤ slotCount crumbs) × (slots % 2 ≡ 0) × (sought < endOf crumbs) ⌝ }
+    ensures { λ r. ⌜ r ≡ readingOf sought (slotList crumbs slots (now (b .entry))) ⌝ }
 {
     let w = word::word_of(b);
     if u64::count_ones(w) != 36 {
@@ -55,44 +56,74 @@ fn read_slots(b: &[u8], slots: usize, crumbs: bool) -> Reading
     if slots < members {
         return Reading::Unsound;
     }
-    if ascends(b, w, slots, crumbs) {
-        return Reading::Members(members);
-    }
-    Reading::Unsound
+    let Order::Below(below) = ascends(b, w, slots, crumbs, sought) else {
+        return Reading::Unsound;
+    };
+    Reading::Members(members, below)
 }
 
-// All slots, used or not, ascend, the last at most (36, 0, 0). The zeros of the word are taken in turn, the lowest first.
-fn ascends(b: &[u8], w: u64, slots: usize, crumbs: bool) -> bool
-    requires { ⌜ (length (now b) ≡ 64) × (ones w ≡ 36) × (slots ≤ slotCount crumbs) ⌝ }
-    ensures { λ r. ⌜ r ≡ inOrder crumbs slots w (now (b .entry)) ⌝ }
+// All slots, used or not, ascend, none above the end; how many are below the one sought. The zeros of the word are taken in turn,
+// the lowest first, two a turn: one byte of crumbs serves both.
+fn ascends(b: &[u8], w: u64, slots: usize, crumbs: bool, sought: u32) -> Order
+    requires { ⌜ (length (now b) ≡ 64) × (ones w ≡ 36) × (slots ≤ slotCount crumbs) × (slots % 2 ≡ 0) ⌝ }
+    ensures { λ r. ⌜ r ≡ orderOf (inOrder crumbs slots w (now (b .entry))) sought (slotMembers crumbs slots w (now (b .entry))) ⌝ }
 {
     let mut zeros = !w;
     let mut last: u32 = 0;
+    let mut below: usize = 0;
     let mut slot: usize = 0;
     while slot < slots {
-        let mini = u64::trailing_zeros(zeros) - (slot as u32);
-        let member = member_at(b, mini, slot, crumbs);
-        if member < last {
-            return false;
+        let even = member_at(b, u64::trailing_zeros(zeros) - (slot as u32), slot, crumbs);
+        if even < last {
+            return Order::Broken;
         }
-        last = member;
         zeros = zeros & (zeros - 1);
-        slot += 1;
+        let odd = member_at(
+            b,
+            u64::trailing_zeros(zeros) - (slot as u32) - 1,
+            slot + 1,
+            crumbs,
+        );
+        if odd < even {
+            return Order::Broken;
+        }
+        zeros = zeros & (zeros - 1);
+        if even < sought {
+            below += 1;
+        }
+        if odd < sought {
+            below += 1;
+        }
+        last = odd;
+        slot += 2;
     }
-    last <= 37_748_736
+    if last <= end_of(crumbs) {
+        return Order::Below(below);
+    }
+    Order::Broken
 }
 
-// What a slot over mini-bucket `mini` holds: mini-bucket, tag and crumb as one number.
+// Mini-bucket 36, tag 0, crumb 0: what the slots past the members hold.
+fn end_of(crumbs: bool) -> u32
+    ensures { λ r. ⌜ r ≡ endOf crumbs ⌝ }
+{
+    if crumbs {
+        return 37_748_736;
+    }
+    2_359_296
+}
+
+// What a slot over mini-bucket `mini` holds: mini-bucket and tag, in a backyard bucket the crumb too, as one number.
 fn member_at(b: &[u8], mini: u32, slot: usize, crumbs: bool) -> u32
     requires { ⌜ (length (now b) ≡ 64) × (mini ≤ 36) × (slot < slotCount crumbs) ⌝ }
-    ensures { λ r. ⌜ r ≡ (mini * 65536 + getD (grouped 256 2 28 (drop 8 (now (b .entry)))) slot 0) * 16
-        + getD (slotCrumbs crumbs (now (b .entry))) slot 0 ⌝ }
+    ensures { λ r. ⌜ r ≡ memberOf crumbs (mini * 65536 + getD (grouped 256 2 28 (drop 8 (now (b .entry)))) slot 0)
+        (getD (slotCrumbs crumbs (now (b .entry))) slot 0) ⌝ }
 {
     let key = mini * 65_536 + slots::tag_of(b, slot);
     if crumbs {
         return key * 16 + slots::crumb_of(b, slot);
     }
-    key * 16
+    key
 }
 
 // "Each crumb is valid": those of the first `members` slots, by their bits in `marks`.

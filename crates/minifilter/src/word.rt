@@ -81,6 +81,14 @@ pub fn bounds(word: u64, mini: u32) -> Bounds
     }
 }
 
+// How many slots mini-bucket `mini` has from `slot` on, which is one of its own or the one past them.
+pub(crate) fn rest(word: u64, mini: u32, slot: usize) -> usize
+    requires { ⌜ (ones word ≡ 36) × (mini < 36) × (below mini (minisOf word) ≤ slot) × (slot ≤ below (suc mini) (minisOf word)) ⌝ }
+    ensures { λ r. ⌜ slot + r ≡ below (suc mini) (minisOf word) ⌝ }
+{
+    u64::trailing_zeros(word >> (mini + (slot as u32))) as usize
+}
+
 // The word with a zero put in at a place, and with the bit there taken out.
 pub fn open_bit(word: u64, place: u32) -> u64
     requires { ⌜ (place < 63) × (word < 2 ^ 63) ⌝ }

@@ -1,15 +1,16 @@
 -- A change of a multiset as a change at a slot: what stands in front of slot p stays, what stands behind it moves one on or back.
--- Main results: added-at, removed-at, and which slots hold smaller members: slot-below, slot-above.
-use mathlib.Core.Path.{_≡_, refl}
+-- Main results: added-at, removed-at, which slots hold smaller members: slot-below, slot-above, and what a member less changes in that:
+-- below-without, below-past.
+use mathlib.Core.Path.{_≡_, refl, ap}
 use Prim.Native.Nat.{ℕ, zero, suc, _≤_, _<_}
 use mathlib.Core.List.{List, [], _∷_, _++_}
-use native.Mathlib.Decide.{decLe}
+use native.Mathlib.Decide.{decLe, ℕ-discrete}
 use native.Mathlib.Omega.{arith}
 use lib.ListN.{length, take, drop, getD}
 use lib.Seq.{take-nil, drop-nil}
 use lib.Dec.{T}
-use Rattle.multiset.specs.Multisets.{added, removed, below, ascending}
-use Rattle.multiset.proofs.MultisetLaws.{added-front, added-behind, removed-here, removed-later, below-smaller, below-other, below-none, ascending-tail, ascending-le}
+use Rattle.multiset.specs.Multisets.{added, removed, below, copies, largest, ascending}
+use Rattle.multiset.proofs.MultisetLaws.{added-front, added-behind, removed-here, removed-later, copies-cons, hit-other, below-smaller, below-other, below-none, below-suc, below-all, below-lt-length, ascending-tail, ascending-le}
 
 added-head : (x y : ℕ) (ys : List ℕ) → T (ascending (y ∷ ys)) → x ≤ y → added x ys ≡ x ∷ ys
 unfolding added
@@ -90,4 +91,67 @@ slot-above x zero (y ∷ ys) a l h = elim (decLe x y) [ yes g ↦ g | no n ↦ a
 slot-above x (suc i) (y ∷ ys) a l h = elim (decLe x y) [
   | yes g ↦ slot-above x i ys (ascending-tail y ys a) (omega (arith, below-none x y ys a g, below-other x y ys g)) (omega arith)
   | no n ↦ slot-above x i ys (ascending-tail y ys a) (omega (arith, below-smaller x y ys (omega arith))) (omega arith)
+]
+
+-- the slot behind the members below x holds x, where x is there
+module _ (x : ℕ) (ys : List ℕ) (a : T (ascending ys)) (there : 0 < copies x ys) where
+  pub slot-inside : below x ys < length ys
+  slot-inside = below-lt-length x x ys there (omega arith)
+
+  pub slot-holds : getD ys (below x ys) 0 ≡ x
+  slot-holds = omega (
+    arith,
+    slot-above x (below x ys) ys a (omega arith) slot-inside,
+    slot-below (suc x) (below x ys) ys a (omega (arith, below-suc x ys)),
+  )
+
+-- a slot that holds x is among the slots of x
+module _ (x p : ℕ) (ys : List ℕ) (a : T (ascending ys)) (h : p < length ys) (there : getD ys p 0 ≡ x) where
+  pub holds-from : below x ys ≤ p
+  holds-from = elim (decLe (below x ys) p) [ yes l ↦ l | no n ↦ absurd (omega (arith, slot-below x p ys a (omega arith))) ]
+
+  pub holds-past : p < below (suc x) ys
+  holds-past = elim (decLe (below (suc x) ys) p) [ yes l ↦ absurd (omega (arith, slot-above (suc x) p ys a l h)) | no n ↦ omega arith ]
+
+  pub holds-copy : 0 < copies x ys
+  holds-copy = omega (arith, holds-from, holds-past, below-suc x ys)
+
+-- the last slot holds the largest
+pub last-holds : (n : ℕ) (ys : List ℕ) → T (ascending ys) → length ys ≡ suc n → getD ys n 0 ≡ largest ys
+unfolding largest
+last-holds n [] a e = absurd (omega arith)
+last-holds zero (y ∷ []) a e = refl
+last-holds (suc n) (y ∷ []) a e = absurd (omega arith)
+last-holds zero (y ∷ z ∷ zs) a e = absurd (omega arith)
+last-holds (suc n) (y ∷ z ∷ zs) a e = last-holds n (z ∷ zs) (ascending-tail y (z ∷ zs) a) (omega arith)
+
+-- one y less: as many are below x, and one less where y was below x
+pub below-without : (x y : ℕ) (ys : List ℕ) → x ≤ y → below x (removed y ys) ≡ below x ys
+unfolding removed
+below-without x y [] l = refl
+below-without x y (z ∷ zs) l = elim (ℕ-discrete y z) [
+  | yes e ↦ rw (removed-here y z zs e, below-other x z zs (omega arith))
+  | no n ↦ elim (decLe x z) [
+    | yes g ↦ rw (removed-later y z zs n, below-other x z (removed y zs) g, below-other x z zs g) (below-without x y zs l)
+    | no g ↦ rw (removed-later y z zs n, below-smaller x z (removed y zs) (omega arith), below-smaller x z zs (omega arith), below-without x y zs l)
+  ]
+]
+
+pub below-past : (x y : ℕ) (ys : List ℕ) → y < x → 0 < copies y ys → suc (below x (removed y ys)) ≡ below x ys
+unfolding copies
+below-past x y [] l c = absurd (omega arith)
+below-past x y (z ∷ zs) l c = elim (ℕ-discrete y z) [
+  | yes e ↦ rw (removed-here y z zs e, below-smaller x z zs (omega arith))
+  | no n ↦
+      let d : 0 < copies y zs = omega (arith, copies-cons y z zs, hit-other y z n) in
+      elim (decLe x z) [
+        | yes g ↦ rw (removed-later y z zs n, below-other x z (removed y zs) g, below-other x z zs g) (below-past x y zs l d)
+        | no g ↦ omega (
+          arith,
+          ap (below x) (removed-later y z zs n),
+          below-smaller x z (removed y zs) (omega arith),
+          below-smaller x z zs (omega arith),
+          below-past x y zs l d,
+        )
+      ]
 ]

@@ -5,7 +5,7 @@ use lib.ListN.{length}
 use borrow.Author.Needs.{needs}
 use borrow.Author.Tests.{ne-eqb, eq-eqb, le-ltb}
 use Rattle.multiset.proofs.MultisetLaws.{slotOf-some, slotOf-none}
-use Rattle.multiset.specs.Multisets.{largest}
+use Rattle.multiset.specs.Multisets.{below, largest}
 use Rattle.machine.specs.Machine.{askAt}
 use Rattle.breadcrumb.specs.Steps.{inFront, FrontRead}
 use Rattle.breadcrumb.proofs.StepLaws.{front-in, front-read, front-full, front-unsound}
@@ -13,7 +13,7 @@ use Rattle.breadcrumb.proofs.ask.ask_front.Statement.{statement}
 use Rattle.breadcrumb.proofs.ask.ask_front.Tie as tie
 
 read-front-at-requires : tie.Need-read-front-at-requires
-read-front-at-requires c κs = front-in (c .before .before .pre .within)
+read-front-at-requires c κs = let s = c .before .before in (front-in (s .pre .within), s .pre .key)
 
 enum-known-n : tie.Need-enum-known-n
 enum-known-n c = search needs
@@ -24,31 +24,31 @@ enum-told c = search needs
 returns : tie.Need-returns
 unfolding askAt
 returns c =
-    let c5 = c .before .before .before .before .before in
-    let a = c5 .args in
-    rw (front-unsound (a .target .front .0) (a .image .now) (c .before .before .read-front-at .ensures) (c .enum-told .given .1))
+    let a = c .before .before .before .before .before .args in
+    rw (front-unsound (a .target .front .0) (a .target .key) (a .image .now) (c .before .before .read-front-at .ensures) (c .enum-told .given .1))
 
--- the front bucket was read
+-- the front bucket was read: its members, and the slot of the key
 front : (c : tie.After-known-told) →
-    let s = c .before .before .before .before .before .before in
-    let t = s .args .target in
-    FrontRead (t .front .0) (s .args .image .now) × (length (inFront (t .front .0) (s .args .image .now)) ≡ c .before .n .given .0 .0)
+    let a = c .before .before .before .before .before .before .args in
+    let t = a .target in
+    FrontRead (t .front .0) (a .image .now) × (length (inFront (t .front .0) (a .image .now)) ≡ c .before .n .given .0 .0)
+    × (c .before .n .given .0 .1 .0 ≡ below (t .key) (inFront (t .front .0) (a .image .now)))
 front c =
     let c3 = c .before .before .before in
-    let c6 = c3 .before .before .before in
-    front-read (c6 .args .target .front .0) (c6 .args .image .now) (c3 .read-front-at .ensures) (c .before .n .given .1)
+    let a = c3 .before .before .before .args in
+    front-read (a .target .front .0) (a .target .key) (a .image .now) (c3 .read-front-at .ensures) (c .before .n .given .1)
 
-find-front-at-requires : tie.Need-find-front-at-requires
-find-front-at-requires c κs = (front c .0, c .before .before .before .before .before .before .pre .key)
+copies-front-at-requires : tie.Need-copies-front-at-requires
+copies-front-at-requires c κs = (front c .0, c .before .before .before .before .before .before .pre .key, front c .2)
 
 returns-2 : tie.Need-returns-2
 unfolding askAt
 returns-2 c =
-    let a = c .before .before .before .before .before .before .before .before .before .args in
-    let r = front (c .before .before .before) .0 in
-    let m = c .before .before .find-front-at .ensures in
+    let c2 = c .before .before in
+    let a = c2 .before .before .before .before .before .before .args in
+    let r = front c2 in
     let xs = inFront (a .target .front .0) (a .image .now) in
-    rw (m .from, r .accepts, slotOf-some (a .target .key) xs (r .list .order) (omega (arith, m .many)))
+    rw (r .2, r .0 .accepts, slotOf-some (a .target .key) xs (r .0 .list .order) (omega (arith, c .before .copies-front-at .ensures)))
 
 none-in-requires : tie.Need-none-in-requires
 none-in-requires c κs = search needs
@@ -56,20 +56,21 @@ none-in-requires c κs = search needs
 returns-3 : tie.Need-returns-3
 unfolding askAt
 returns-3 c =
-    let c4 = c .before .before .before .before in
-    let c5 = c4 .before in
-    let c11 = c5 .before .before .before .before .before .before in
-    let a = c11 .args in
-    let r = front c5 .0 in
-    let m = c4 .find-front-at .ensures in
+    let c3 = c .before .before .before in
+    let c4 = c3 .before in
+    let a = c4 .before .before .before .before .before .before .args in
+    let r = front c4 in
     let xs = inFront (a .target .front .0) (a .image .now) in
-    c .none-in .ensures ∙ rw
-    (r .accepts, slotOf-none (a .target .key) xs (omega (arith, m .many)), ne-eqb (length xs) 28 (λ e. omega (arith, front c5 .1)))
+    c .none-in .ensures ∙ rw (
+      r .0 .accepts,
+      slotOf-none (a .target .key) xs (omega (arith, c3 .copies-front-at .ensures)),
+      ne-eqb (length xs) 28 (λ e. omega (arith, r .1)),
+    )
 
 largest-front-at-requires : tie.Need-largest-front-at-requires
 largest-front-at-requires c κs =
-    let c4 = c .before .before .before .before in
-    (front c4 .0, omega (arith, front c4 .0 .list .room, front c4 .1))
+    let r = front (c .before .before .before) in
+    (r .0, omega (arith, r .0 .list .room, r .1))
 
 none-in-requires-2 : tie.Need-none-in-requires-2
 none-in-requires-2 c κs = search needs
@@ -77,28 +78,26 @@ none-in-requires-2 c κs = search needs
 returns-4 : tie.Need-returns-4
 unfolding askAt
 returns-4 c =
-    let c3 = c .before .before .before in
-    let c7 = c3 .before .before .before .before in
-    let c8 = c7 .before in
-    let c14 = c8 .before .before .before .before .before .before in
-    let a = c14 .args in
-    let r = front c8 .0 in
-    let m = c7 .find-front-at .ensures in
+    let c2 = c .before .before in
+    let c5 = c2 .before .before .before in
+    let c6 = c5 .before in
+    let a = c6 .before .before .before .before .before .before .args in
+    let r = front c6 in
     let xs = inFront (a .target .front .0) (a .image .now) in
     c .none-in2 .ensures ∙ rw (
-      r .accepts,
-      slotOf-none (a .target .key) xs (omega (arith, m .many)),
-      eq-eqb (length xs) 28 (omega (arith, r .list .room, front c8 .1)),
-      le-ltb (largest xs) (a .target .key) (omega (arith, c3 .largest-front-at .ensures)),
+      r .0 .accepts,
+      slotOf-none (a .target .key) xs (omega (arith, c5 .copies-front-at .ensures)),
+      eq-eqb (length xs) 28 (omega (arith, r .0 .list .room, r .1)),
+      le-ltb (largest xs) (a .target .key) (omega (arith, c2 .largest-front-at .ensures)),
     )
 
 ask-behind-requires : tie.Need-ask-behind-requires
 ask-behind-requires c κs =
-    let c7 = c .before .before .before .before .before .before .before in
-    let c13 = c7 .before .before .before .before .before .before in
-    let r = front c7 in (
-      c13 .pre,
-      record { whole = front-full r (omega arith); over = omega (arith, c .before .before .largest-front-at .ensures) },
+    let c5 = c .before .before .before .before .before in
+    let s = c5 .before .before .before .before .before .before in
+    let r = front c5 in (
+      s .pre,
+      record { whole = front-full (r .0) (r .1) (omega arith); over = omega (arith, c .before .largest-front-at .ensures) },
     )
 
 returns-5 : tie.Need-returns-5
@@ -112,7 +111,7 @@ ask-front-spec =
     enum-known-n
     enum-told
     returns
-    find-front-at-requires
+    copies-front-at-requires
     returns-2
     none-in-requires
     returns-3

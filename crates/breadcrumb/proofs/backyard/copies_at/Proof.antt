@@ -7,25 +7,25 @@ use Rattle.breadcrumb.specs.Steps.{inBack}
 use Rattle.breadcrumb.proofs.backyard.copies_at.Statement.{statement}
 use Rattle.breadcrumb.proofs.backyard.copies_at.Tie as tie
 
-mul-find-back-at : tie.Need-mul-find-back-at
-mul-find-back-at c = search needs
+mul-copies-back-at : tie.Need-mul-copies-back-at
+mul-copies-back-at c = search needs
 
-add-find-back-at : tie.Need-add-find-back-at
-add-find-back-at c = search needs
+add-copies-back-at : tie.Need-add-copies-back-at
+add-copies-back-at c = search needs
 
-find-back-at-requires : tie.Need-find-back-at-requires
-find-back-at-requires c κs = search needs
+copies-back-at-requires : tie.Need-copies-back-at-requires
+copies-back-at-requires c κs = search needs
 
 returns : tie.Need-returns
 returns c =
     let s = c .before .before .before in
     let img = s .args .image .now in
     let ys = inBack (s .args .size) (s .args .way .bucket .0) img in
-    let m = c .find-back-at .ensures .many in (
+    let m = c .copies-back-at .ensures in (
       m,
       omega (arith, m, s .pre .0 .list .room, copies-le-length (s .args .key * 16 + s .args .way .crumb) ys),
     )
 
 pub copies-at-spec : {M : Type 1} → statement M
 copies-at-spec =
-    tie.close (tie.spec mul-find-back-at add-find-back-at find-back-at-requires returns)
+    tie.close (tie.spec mul-copies-back-at add-copies-back-at copies-back-at-requires returns)

@@ -1,5 +1,6 @@
 -- `breadcrumb::backyard::read_behind` meets its contract. b0, then b1, each sound or the refusal of the machine's `backyard`.
 use mathlib.Core.Bool.{true, false}
+use native.Mathlib.Omega.{arith}
 use borrow.Author.Needs.{needs}
 use Rattle.breadcrumb.proofs.StepLaws.{back-in, way-read, way-unsound}
 use Rattle.breadcrumb.proofs.backyard.read_behind.Statement.{statement}
@@ -8,8 +9,17 @@ use Rattle.breadcrumb.proofs.backyard.read_behind.Tie as tie
 first-of-requires : tie.Need-first-of-requires
 first-of-requires c κs = search needs
 
+mul-read-back-at : tie.Need-mul-read-back-at
+mul-read-back-at c = search needs
+
+add-read-back-at : tie.Need-add-read-back-at
+add-read-back-at c = omega (arith, c .before .before .before .pre .1, c .before .first-of .ensures .small)
+
 read-back-at-requires : tie.Need-read-back-at-requires
-read-back-at-requires c κs = back-in (c .before .before .before .pre .whole) (c .before .first-of .ensures .inside)
+read-back-at-requires c κs =
+    let s = c .before .before .before in
+    let l = c .before .first-of .ensures in
+    (back-in (s .pre .0 .whole) (l .inside), omega (arith, s .pre .1, l .small))
 
 enum-known-n0 : tie.Need-enum-known-n0
 enum-known-n0 c = search needs
@@ -24,17 +34,30 @@ returns : tie.Need-returns
 returns c =
     let c3 = c .before .before .before in
     let c5 = c3 .before .before in
-    let c7 = c5 .before .before in
+    let s = c5 .before .before in
     let l = c5 .first-of .ensures in
-    rw (c .table-of .ensures, l .bucket, way-unsound true l (c7 .args .image .now) (c3 .read-back-at .ensures) (c .before .enum-told .given .1))
+    rw (
+      c .table-of .ensures,
+      l .bucket,
+      way-unsound true l (s .args .key) (s .args .image .now) (c3 .read-back-at .ensures) (c .before .enum-told .given .1),
+    )
 
 second-of-requires : tie.Need-second-of-requires
 second-of-requires c κs = search needs
 
+mul-read-back-at-2 : tie.Need-mul-read-back-at-2
+mul-read-back-at-2 c = search needs
+
+add-read-back-at-2 : tie.Need-add-read-back-at-2
+add-read-back-at-2 c =
+    let s = c .before .before .before .before .before .before .before .before .before in
+    omega (arith, s .pre .1, c .before .second-of .ensures .small)
+
 read-back-at-requires-2 : tie.Need-read-back-at-requires-2
 read-back-at-requires-2 c κs =
-    let c9 = c .before .before .before .before .before .before .before .before .before in
-    back-in (c9 .pre .whole) (c .before .second-of .ensures .inside)
+    let s = c .before .before .before .before .before .before .before .before .before in
+    let l = c .before .second-of .ensures in
+    (back-in (s .pre .0 .whole) (l .inside), omega (arith, s .pre .1, l .small))
 
 enum-known-n1 : tie.Need-enum-known-n1
 enum-known-n1 c = search needs
@@ -54,9 +77,10 @@ returns-2 c =
     let c11 = c9 .before .before in
     let s = c11 .before .before in
     let img = s .args .image .now in
+    let x = s .args .key in
     let l = c5 .second-of .ensures in
-    let r = way-read true (c11 .first-of .ensures) img (c9 .read-back-at .ensures) (c7 .n0 .given .1) in
-    rw (r .0 .accepts, c .table-of2 .ensures, l .bucket, way-unsound false l img (c3 .read-back-at2 .ensures) (c .before .enum-told2 .given .1))
+    let r = way-read true (c11 .first-of .ensures) x img (c9 .read-back-at .ensures) (c7 .n0 .given .1) in
+    rw (r .0 .accepts, c .table-of2 .ensures, l .bucket, way-unsound false l x img (c3 .read-back-at2 .ensures) (c .before .enum-told2 .given .1))
 
 returns-3 : tie.Need-returns-3
 returns-3 c =
@@ -65,23 +89,28 @@ returns-3 c =
     let c7 = c5 .before .before in
     let c9 = c7 .before .before in
     let c11 = c9 .before .before in
-    let c13 = c11 .before .before in
-    let img = c13 .args .image .now in
-    let r = way-read true (c11 .first-of .ensures) img (c9 .read-back-at .ensures) (c7 .n0 .given .1) in
-    let s = way-read false (c5 .second-of .ensures) img (c3 .read-back-at2 .ensures) (c .before .n1 .given .1) in
-    record { read = record { first = r .0; second = s .0 }; first = r .1; second = s .1 }
+    let s = c11 .before .before in
+    let img = s .args .image .now in
+    let x = s .args .key in
+    let a = way-read true (c11 .first-of .ensures) x img (c9 .read-back-at .ensures) (c7 .n0 .given .1) in
+    let b = way-read false (c5 .second-of .ensures) x img (c3 .read-back-at2 .ensures) (c .before .n1 .given .1) in
+    (record { read = record { first = a .0; second = b .0 }; first = a .1; second = b .1 }, record { first = a .2; second = b .2 })
 
 pub read-behind-spec : {M : Type 1} → statement M
 read-behind-spec =
     tie.close
     (tie.spec
     first-of-requires
+    mul-read-back-at
+    add-read-back-at
     read-back-at-requires
     enum-known-n0
     enum-told
     table-of-requires
     returns
     second-of-requires
+    mul-read-back-at-2
+    add-read-back-at-2
     read-back-at-requires-2
     enum-known-n1
     enum-told-2

@@ -36,7 +36,7 @@ within c =
     record { small = s .pre .small; bucket = inside c; inside = rw (s .pre .long) (back-inside (s .args .size) (c .before .loop .j) (inside c)) }
 
 read-back-at-requires : tie.Need-read-back-at-requires Inv-loop μ-loop
-read-back-at-requires c κs = within c
+read-back-at-requires c κs = (within c, omega arith)
 
 enum-told : tie.Need-enum-told Inv-loop μ-loop
 enum-told c = search needs
@@ -56,7 +56,7 @@ returns c =
       c .table-of .ensures,
       i .before .loop .inv .1
           ∙ back-stop (s .args .size) (backyards (s .args .size)) j (s .args .image .now) (inside i)
-          (back-unsound (s .args .size) j (s .args .image .now) (c .before .before .before .read-back-at .ensures) (c .before .enum-told2 .given .1)),
+          (back-unsound (s .args .size) j 0 (s .args .image .now) (c .before .before .before .read-back-at .ensures) (c .before .enum-told2 .given .1)),
     )
 
 add-j : tie.Need-add-j Inv-loop μ-loop
@@ -73,7 +73,7 @@ loop-again c =
       omega arith,
       i .before .loop .inv .1
           ∙ back-on (s .args .size) (backyards (s .args .size)) j (s .args .image .now) (inside i)
-          (back-read (s .args .size) j (s .args .image .now) (c .before .before .read-back-at .ensures) (c .enum-told .given .1) .0 .accepts),
+          (back-read (s .args .size) j 0 (s .args .image .now) (c .before .before .read-back-at .ensures) (c .enum-told .given .1) .0 .accepts),
     )
 
 returns-2 : tie.Need-returns-2 Inv-loop μ-loop

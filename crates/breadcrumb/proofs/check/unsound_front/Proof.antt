@@ -30,7 +30,7 @@ unfolding fronts
 inside c = omega arith
 
 read-front-at-requires : tie.Need-read-front-at-requires Inv-loop μ-loop
-read-front-at-requires c κs = let s = c .before .before .before in rw (s .pre .long) (front-inside (s .args .size) (c .before .loop .f) (inside c))
+read-front-at-requires c κs = let s = c .before .before .before in (rw (s .pre .long) (front-inside (s .args .size) (c .before .loop .f) (inside c)), omega arith)
 
 enum-told : tie.Need-enum-told Inv-loop μ-loop
 enum-told c = search needs
@@ -45,7 +45,7 @@ returns c =
     let f = i .before .loop .f in
     rw (i .before .loop .inv .1
     ∙ front-stop (fronts (s .args .size)) f (s .args .image .now) (inside i)
-    (front-unsound f (s .args .image .now) (c .before .before .read-front-at .ensures) (c .enum-told2 .given .1)))
+    (front-unsound f 0 (s .args .image .now) (c .before .before .read-front-at .ensures) (c .enum-told2 .given .1)))
 
 add-f : tie.Need-add-f Inv-loop μ-loop
 add-f c = omega (arith, c .before .before .before .before .before .before .pre .small)
@@ -61,7 +61,7 @@ loop-again c =
       omega arith,
       i .before .loop .inv .1
           ∙ front-on (fronts (s .args .size)) f (s .args .image .now) (inside i)
-          (front-read f (s .args .image .now) (c .before .before .read-front-at .ensures) (c .enum-told .given .1) .0 .accepts),
+          (front-read f 0 (s .args .image .now) (c .before .before .read-front-at .ensures) (c .enum-told .given .1) .0 .accepts),
     )
 
 returns-2 : tie.Need-returns-2 Inv-loop μ-loop

@@ -7,7 +7,7 @@ use borrow.Author.Tests.{eq-eqb, le-leb}
 use Rattle.multiset.specs.Multisets.{largest}
 use Rattle.multiset.proofs.MultisetLaws.{copies-le-length}
 use Rattle.machine.specs.Machine.{countAt}
-use Rattle.breadcrumb.specs.Steps.{inFront, BothRead}
+use Rattle.breadcrumb.specs.Steps.{inFront, BothRead, BothRank}
 use Rattle.breadcrumb.proofs.StepLaws.{both-hold, both-unsound, both-accepts, chosen-way}
 use Rattle.breadcrumb.proofs.count.count_behind.Statement.{statement}
 use Rattle.breadcrumb.proofs.count.count_behind.Tie as tie
@@ -18,27 +18,32 @@ read-behind-requires c κs = search needs
 enum-known-table : tie.Need-enum-known-table
 enum-known-table c = search needs
 
-enum-told : tie.Need-enum-told
-enum-told c = search needs
+enum-known-a : tie.Need-enum-known-a
+enum-known-a c = search needs
 
--- both backyard buckets were read
-both : (c : tie.After-enum-told) →
-    let s = c .before .before .before .before .before in
-    let t = s .args .target in
-    BothRead (t .size) (t .front .0) (s .args .image .now)
+-- both backyard buckets were read, and the slots are those of the key
+both : (c : tie.After-known-told2) →
+    let a = c .before .before .before .before .before .before .args in
+    let t = a .target in
+    BothRead (t .size) (t .front .0) (a .image .now)
+    × BothRank (t .size) (t .front .0) (t .key) (a .image .now) (c .before .a .given .0 .0 .below) (c .before .a .given .0 .1 .0 .below)
 both c =
-    let c5 = c .before .before .before .before .before in
-    both-hold (c5 .args .target .size) (c5 .args .target .front .0) (c5 .args .image .now) (c .before .before .read-behind .ensures)
-    (c .enum-told .given .1) .read
+    let c3 = c .before .before .before in
+    let a = c3 .before .before .before .args in
+    let t = a .target in
+    let r = both-hold (t .size) (t .front .0) (t .key) (a .image .now) (c3 .read-behind .ensures) (c .before .a .given .1) in
+    (r .0 .read, r .1)
 
 first-of-requires : tie.Need-first-of-requires
 first-of-requires c κs = search needs
 
 copies-at-requires : tie.Need-copies-at-requires
 copies-at-requires c κs =
-    let c6 = c .before .before .before .before .before .before in
+    let c1 = c .before in
+    let s = c1 .before .before .before .before .before .before in
+    let r = both c1 in
     let l = c .first-of .ensures in
-    (chosen-way (both (c .before)) true l, l .small, c6 .pre .placed .key)
+    (chosen-way (r .0) true l, l .small, s .pre .placed .key, rw (l .bucket, l .crumb) (r .1 .first))
 
 second-of-requires : tie.Need-second-of-requires
 second-of-requires c κs = search needs
@@ -46,20 +51,21 @@ second-of-requires c κs = search needs
 copies-at-requires-2 : tie.Need-copies-at-requires-2
 copies-at-requires-2 c κs =
     let c3 = c .before .before .before in
-    let c8 = c3 .before .before .before .before .before in
+    let s = c3 .before .before .before .before .before .before in
+    let r = both c3 in
     let l = c .second-of .ensures in
-    (chosen-way (both c3) false l, l .small, c8 .pre .placed .key)
+    (chosen-way (r .0) false l, l .small, s .pre .placed .key, rw (l .bucket, l .crumb) (r .1 .second))
 
-add-t14 : tie.Need-add-t14
-add-t14 c =
-    let s = c .before .before .before .before .before .before .before .before .before in
+add-t16 : tie.Need-add-t16
+add-t16 c =
+    let s = c .before .before .before .before .before .before .before .before .before .before in
     let img = s .args .image .now in
     let t = s .args .target in
     omega (arith, s .pre .whole .full, s .pre .many, copies-le-length (t .key) (inFront (t .front .0) img), c .before .before .copies-at .ensures .1)
 
-add-t15 : tie.Need-add-t15
-add-t15 c =
-    let s = c .before .before .before .before .before .before .before .before .before in
+add-t17 : tie.Need-add-t17
+add-t17 c =
+    let s = c .before .before .before .before .before .before .before .before .before .before in
     let img = s .args .image .now in
     let t = s .args .target in
     omega (
@@ -82,7 +88,7 @@ returns c =
       s .pre .whole .read .accepts,
       eq-eqb (length xs) 28 (s .pre .whole .full),
       le-leb (largest xs) (t .key) (s .pre .reach),
-      both-unsound (t .size) (t .front .0) (s .args .image .now) (c3 .read-behind .ensures) (c .before .table .given .1),
+      both-unsound (t .size) (t .front .0) (t .key) (s .args .image .now) (c3 .read-behind .ensures) (c .before .table .given .1),
     )
 
 returns-2 : tie.Need-returns-2
@@ -90,7 +96,7 @@ unfolding countAt
 returns-2 c =
     let c3 = c .before .before .before in
     let c4 = c3 .before in
-    let s = c4 .before .before .before .before .before in
+    let s = c4 .before .before .before .before .before .before in
     let img = s .args .image .now in
     let t = s .args .target in
     let xs = inFront (t .front .0) img in
@@ -102,7 +108,7 @@ returns-2 c =
       s .pre .whole .read .accepts,
       eq-eqb (length xs) 28 (s .pre .whole .full),
       le-leb (largest xs) (t .key) (s .pre .reach),
-      both-accepts (both c4),
+      both-accepts (both c4 .0),
       s .pre .many,
       a,
       b,
@@ -114,12 +120,12 @@ count-behind-spec =
     (tie.spec
     read-behind-requires
     enum-known-table
-    enum-told
+    enum-known-a
     first-of-requires
     copies-at-requires
     second-of-requires
     copies-at-requires-2
-    add-t14
-    add-t15
+    add-t16
+    add-t17
     returns
     returns-2)

@@ -18,7 +18,7 @@ copies-at-requires : tie.Need-copies-at-requires
 copies-at-requires c κs =
     let c3 = c .before .before .before in
     let l = c .first-of .ensures in
-    (chosen-way (c3 .pre .1 .read) true l, l .small, c3 .pre .0 .key)
+    (chosen-way (c3 .pre .1 .read) true l, l .small, c3 .pre .0 .key, rw (l .bucket, l .crumb) (c3 .pre .2 .first))
 
 second-of-requires : tie.Need-second-of-requires
 second-of-requires c κs = search needs
@@ -27,7 +27,7 @@ copies-at-requires-2 : tie.Need-copies-at-requires-2
 copies-at-requires-2 c κs =
     let c5 = c .before .before .before .before .before in
     let l = c .second-of .ensures in
-    (chosen-way (c5 .pre .1 .read) false l, l .small, c5 .pre .0 .key)
+    (chosen-way (c5 .pre .1 .read) false l, l .small, c5 .pre .0 .key, rw (l .bucket, l .crumb) (c5 .pre .2 .second))
 
 -- the copies in First(f) and in Second(f)
 first : (c : tie.After-copies-at2) →
@@ -66,20 +66,20 @@ returns-3 c =
 
 returns-4 : tie.Need-returns-4
 returns-4 c =
-    let c3 = c .before .before .before in
-    let c9 = c3 .before .before .before .before .before .before in
-    let b = c9 .pre .1 in
-    copy-both (c9 .args .target .key) (b .read) true (rw (first c3) at (above-zero _ (c .before .before .if1 .left)))
-    (rw (second c3) at (above-zero _ (c .before .if3 .left)))
+    let c5 = c .before .before .before .before .before in
+    let s = c5 .before .before .before .before .before .before in
+    let b = s .pre .1 in
+    copy-both (s .args .target .key) (b .read) true (rw (first c5) at (above-zero _ (c .before .before .before .before .if1 .left)))
+    (rw (second c5) at (above-zero _ (c .before .before .before .if3 .left)))
     (rw (b .first, b .second) (lt-ltb _ _ (c .if4 .taken)))
 
 returns-5 : tie.Need-returns-5
 returns-5 c =
-    let c3 = c .before .before .before in
-    let c9 = c3 .before .before .before .before .before .before in
-    let b = c9 .pre .1 in
-    copy-both (c9 .args .target .key) (b .read) false (rw (first c3) at (above-zero _ (c .before .before .if1 .left)))
-    (rw (second c3) at (above-zero _ (c .before .if3 .left)))
+    let c5 = c .before .before .before .before .before in
+    let s = c5 .before .before .before .before .before .before in
+    let b = s .pre .1 in
+    copy-both (s .args .target .key) (b .read) false (rw (first c5) at (above-zero _ (c .before .before .before .before .if1 .left)))
+    (rw (second c5) at (above-zero _ (c .before .before .before .if3 .left)))
     (rw (b .first, b .second) (le-ltb _ _ (c .if4 .left)))
 
 pub copy-behind-spec : {M : Type 1} → statement M

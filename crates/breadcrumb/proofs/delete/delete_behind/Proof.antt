@@ -2,7 +2,7 @@
 use mathlib.Core.Path.{refl}
 use mathlib.Core.Bool.{true, false}
 use borrow.Author.Needs.{needs}
-use Rattle.breadcrumb.specs.Steps.{BothHold}
+use Rattle.breadcrumb.specs.Steps.{BothHold, BothRank}
 use Rattle.breadcrumb.proofs.StepLaws.{both-hold, both-unsound, changes}
 use Rattle.breadcrumb.proofs.LeavingLaws.{stands, copy-true, copy-false, copy-nothing}
 use Rattle.breadcrumb.proofs.DeleteLaws.{behind-unsound, behind-absent, behind-taken}
@@ -15,23 +15,26 @@ read-behind-requires c κs = search needs
 enum-known-table : tie.Need-enum-known-table
 enum-known-table c = search needs
 
-enum-known-n0 : tie.Need-enum-known-n0
-enum-known-n0 c = search needs
+enum-known-a : tie.Need-enum-known-a
+enum-known-a c = search needs
 
--- both backyard buckets were read
+-- both backyard buckets were read, and so many of each are below the key
 both : (c : tie.After-known-told2) →
     let s = c .before .before .before .before .before .before .before in
     let t = s .args .target in
-    BothHold (t .size) (t .front .0) (s .args .image .now) (c .before .n0 .given .0 .0) (c .before .n0 .given .0 .1 .0)
+    let m = c .before .a .given .0 in
+    BothHold (t .size) (t .front .0) (s .args .image .now) (m .0 .members) (m .1 .0 .members)
+    × BothRank (t .size) (t .front .0) (t .key) (s .args .image .now) (m .0 .below) (m .1 .0 .below)
 both c =
     let c3 = c .before .before .before in
     let c7 = c3 .before .before .before .before in
-    both-hold (c7 .args .target .size) (c7 .args .target .front .0) (c7 .args .image .now) (c3 .read-behind .ensures) (c .before .n0 .given .1)
+    both-hold (c7 .args .target .size) (c7 .args .target .front .0) (c7 .args .target .key) (c7 .args .image .now) (c3 .read-behind .ensures) (c .before .a .given .1)
 
 copy-behind-requires : tie.Need-copy-behind-requires
 copy-behind-requires c κs =
     let c8 = c .before .before .before .before .before .before .before .before in
-    (c8 .pre .0, both (c .before))
+    let h = both (c .before) in
+    (c8 .pre .0, h .0, h .1)
 
 enum-known-key : tie.Need-enum-known-key
 enum-known-key c = search needs
@@ -48,7 +51,7 @@ take-out-requires c κs =
     let t = s .args .target in
     let v = copy-true (t .size) (t .front .0) (t .key) (s .args .image .now) (c5 .copy-behind .ensures) (c3 .key .given .1) in
     let l = c .first-of .ensures in
-    rw (v .same) (stands (both c7 .read) l (v .leaves))
+    rw (v .same) (stands (both c7 .0 .read) l (v .leaves))
 
 enum-known-key-2 : tie.Need-enum-known-key-2
 enum-known-key-2 c = search needs
@@ -65,7 +68,7 @@ take-out-requires-2 c κs =
     let t = s .args .target in
     let v = copy-false (t .size) (t .front .0) (t .key) (s .args .image .now) (c5 .copy-behind .ensures) (c3 .key2 .given .1) in
     let l = c .second-of .ensures in
-    rw (v .same) (stands (both c7 .read) l (v .leaves))
+    rw (v .same) (stands (both c7 .0 .read) l (v .leaves))
 
 enum-told : tie.Need-enum-told
 enum-told c = search needs
@@ -79,7 +82,7 @@ returns c =
     let s = c3 .before .before .before .before in
     let img = s .args .image .now in
     let t = s .args .target in
-    let u = both-unsound (t .size) (t .front .0) img (c3 .read-behind .ensures) (c .before .table .given .1) in
+    let u = both-unsound (t .size) (t .front .0) (t .key) img (c3 .read-behind .ensures) (c .before .table .given .1) in
     changes (behind-unsound (t .size) (t .front .0) (t .key) img (s .pre .1) u)
     (record { answer = refl; bytes = refl })
 
@@ -98,7 +101,7 @@ returns-2 c =
     let v = copy-true (t .size) (t .front .0) (t .key) img (c8 .copy-behind .ensures) (c6 .key .given .1) in
     let e = c .before .before .take-out .ensures in
     changes
-    (behind-taken (t .size) (t .front .0) (t .key) img (s .pre .1) true (both c10 .read) (v .there) (v .leaves .choice) (c3 .first-of .ensures))
+    (behind-taken (t .size) (t .front .0) (t .key) img (s .pre .1) true (both c10 .0 .read) (v .there) (v .leaves .choice) (c3 .first-of .ensures))
     (record { answer = rw (e .0); bytes = rw (v .same) at (e .1) })
 
 same-length-3 : tie.Need-same-length-3
@@ -116,7 +119,7 @@ returns-3 c =
     let v = copy-false (t .size) (t .front .0) (t .key) img (c8 .copy-behind .ensures) (c6 .key2 .given .1) in
     let e = c .before .before .take-out2 .ensures in
     changes
-    (behind-taken (t .size) (t .front .0) (t .key) img (s .pre .1) false (both c10 .read) (v .there) (v .leaves .choice) (c3 .second-of .ensures))
+    (behind-taken (t .size) (t .front .0) (t .key) img (s .pre .1) false (both c10 .0 .read) (v .there) (v .leaves .choice) (c3 .second-of .ensures))
     (record { answer = rw (e .0); bytes = rw (v .same) at (e .1) })
 
 same-length-4 : tie.Need-same-length-4
@@ -129,7 +132,7 @@ returns-4 c =
     let img = s .args .image .now in
     let t = s .args .target in
     let n = copy-nothing (t .size) (t .front .0) (t .key) img (c .before .before .copy-behind .ensures) (c .enum-told .given .1) in
-    changes (behind-absent (t .size) (t .front .0) (t .key) img (s .pre .1) (both c4 .read) n)
+    changes (behind-absent (t .size) (t .front .0) (t .key) img (s .pre .1) (both c4 .0 .read) n)
     (record { answer = refl; bytes = refl })
 
 pub delete-behind-spec : {M : Type 1} → statement M
@@ -138,7 +141,7 @@ delete-behind-spec =
     (tie.spec
     read-behind-requires
     enum-known-table
-    enum-known-n0
+    enum-known-a
     copy-behind-requires
     enum-known-key
     first-of-requires

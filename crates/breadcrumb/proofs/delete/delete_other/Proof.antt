@@ -26,7 +26,7 @@ returns-2 c =
     let s = c .before .before .before .before .before .before in
     let img = s .args .image .now in
     let t = s .args .target in
-    let w = front-full (s .pre .read, s .pre .many) (omega arith) in
+    let w = front-full (s .pre .read) (s .pre .many) (omega arith) in
     changes (absent-low (t .size) (t .front .0) (t .key) img w (s .pre .absent) (omega (arith, c .before .before .largest-front-at .ensures)))
     (record { answer = refl; bytes = refl })
 
@@ -35,7 +35,7 @@ delete-behind-requires c κs =
     let c3 = c .before .before .before in
     let s = c3 .before .before .before .before in (
       s .pre .placed,
-      record { whole = front-full (s .pre .read, s .pre .many) (omega arith); over = omega (arith, c3 .largest-front-at .ensures) },
+      record { whole = front-full (s .pre .read) (s .pre .many) (omega arith); over = omega (arith, c3 .largest-front-at .ensures) },
     )
 
 same-length-2 : tie.Need-same-length-2

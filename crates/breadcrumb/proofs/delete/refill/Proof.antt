@@ -1,9 +1,9 @@
--- `breadcrumb::delete::refill` meets its contract. A copy leaves a full front bucket, and the smallest member behind, if any, takes its slot.
+-- `breadcrumb::delete::refill` meets its contract. A copy leaves a full front bucket, and the smallest member behind, if any, takes its room.
 use mathlib.Core.Path.{refl}
 use mathlib.Core.Bool.{true, false}
 use borrow.Author.Needs.{needs}
 use Rattle.breadcrumb.specs.Steps.{BothHold}
-use Rattle.breadcrumb.proofs.StepLaws.{both-hold, both-unsound, changes}
+use Rattle.breadcrumb.proofs.StepLaws.{at-copies, both-hold, both-unsound, changes}
 use Rattle.breadcrumb.proofs.LeavingLaws.{stands, least-true, least-false, least-nothing}
 use Rattle.breadcrumb.proofs.DeleteLaws.{refill-unsound, refill-nothing, refill-least}
 use Rattle.breadcrumb.proofs.delete.refill.Statement.{statement}
@@ -15,19 +15,20 @@ read-behind-requires c κs = search needs
 enum-known-table : tie.Need-enum-known-table
 enum-known-table c = search needs
 
-enum-known-n0 : tie.Need-enum-known-n0
-enum-known-n0 c = search needs
+enum-known-a : tie.Need-enum-known-a
+enum-known-a c = search needs
 
 -- both backyard buckets were read
 both : (c : tie.After-known-told2) →
     let s = c .before .before .before .before .before .before .before in
     let t = s .args .target in
-    BothHold (t .size) (t .front .0) (s .args .image .now) (c .before .n0 .given .0 .0) (c .before .n0 .given .0 .1 .0)
+    let m = c .before .a .given .0 in
+    BothHold (t .size) (t .front .0) (s .args .image .now) (m .0 .members) (m .1 .0 .members)
 both c =
     let c3 = c .before .before .before in
     let s = c3 .before .before .before .before in
     let t = s .args .target in
-    both-hold (t .size) (t .front .0) (s .args .image .now) (c3 .read-behind .ensures) (c .before .n0 .given .1)
+    both-hold (t .size) (t .front .0) (t .key) (s .args .image .now) (c3 .read-behind .ensures) (c .before .a .given .1) .0
 
 least-behind-requires : tie.Need-least-behind-requires
 least-behind-requires c κs =
@@ -49,7 +50,7 @@ refill-from-requires c κs =
     let t = s .args .target in
     let l = c .first-of .ensures in
     let v = least-true (t .size) (t .front .0) (s .args .image .now) (c5 .least-behind .ensures) (c3 .key .given .1) in
-    record { placed = s .pre .0; front = s .pre .1 .read; here = s .pre .2; behind = stands (both c7 .read) l (v .leaves) }
+    record { placed = s .pre .0; front = s .pre .1; here = s .pre .2; behind = stands (both c7 .read) l (v .leaves) }
 
 enum-known-key-2 : tie.Need-enum-known-key-2
 enum-known-key-2 c = search needs
@@ -66,7 +67,7 @@ refill-from-requires-2 c κs =
     let t = s .args .target in
     let l = c .second-of .ensures in
     let v = least-false (t .size) (t .front .0) (s .args .image .now) (c5 .least-behind .ensures) (c3 .key2 .given .1) in
-    record { placed = s .pre .0; front = s .pre .1 .read; here = s .pre .2; behind = stands (both c7 .read) l (v .leaves) }
+    record { placed = s .pre .0; front = s .pre .1; here = s .pre .2; behind = stands (both c7 .read) l (v .leaves) }
 
 enum-told : tie.Need-enum-told
 enum-told c = search needs
@@ -83,8 +84,8 @@ returns c =
     let s = c3 .before .before .before .before in
     let img = s .args .image .now in
     let t = s .args .target in
-    let u = both-unsound (t .size) (t .front .0) img (c3 .read-behind .ensures) (c .before .table .given .1) in
-    changes (refill-unsound (t .size) (t .front .0) (t .key) img (s .pre .1) (s .pre .2) u)
+    let u = both-unsound (t .size) (t .front .0) (t .key) img (c3 .read-behind .ensures) (c .before .table .given .1) in
+    changes (refill-unsound (t .size) (t .front .0) (t .key) img (s .pre .1) (at-copies (s .pre .1 .read .list .order) (s .pre .2)) u)
     (record { answer = refl; bytes = refl })
 
 same-length-2 : tie.Need-same-length-2
@@ -101,7 +102,7 @@ returns-2 c =
     let t = s .args .target in
     let v = least-true (t .size) (t .front .0) img (c8 .least-behind .ensures) (c6 .key .given .1) in
     let e = c .before .before .refill-from .ensures in
-    let d = refill-least (t .size) (t .front .0) (t .key) img (s .pre .1) (s .pre .2) true in
+    let d = refill-least (t .size) (t .front .0) (t .key) img (s .pre .1) (at-copies (s .pre .1 .read .list .order) (s .pre .2)) true in
     changes (d (both c10 .read) (v .head) (v .leaves .choice) (c3 .first-of .ensures))
     (record { answer = rw (e .0); bytes = e .1 })
 
@@ -119,7 +120,7 @@ returns-3 c =
     let t = s .args .target in
     let v = least-false (t .size) (t .front .0) img (c8 .least-behind .ensures) (c6 .key2 .given .1) in
     let e = c .before .before .refill-from2 .ensures in
-    let d = refill-least (t .size) (t .front .0) (t .key) img (s .pre .1) (s .pre .2) false in
+    let d = refill-least (t .size) (t .front .0) (t .key) img (s .pre .1) (at-copies (s .pre .1 .read .list .order) (s .pre .2)) false in
     changes (d (both c10 .read) (v .head) (v .leaves .choice) (c3 .second-of .ensures))
     (record { answer = rw (e .0); bytes = e .1 })
 
@@ -135,7 +136,7 @@ returns-4 c =
     let img = s .args .image .now in
     let t = s .args .target in
     let n = least-nothing (t .size) (t .front .0) img (c6 .least-behind .ensures) (c4 .enum-told .given .1) in
-    changes (refill-nothing (t .size) (t .front .0) (t .key) img (s .pre .1) (s .pre .2) (both c8 .read) n)
+    changes (refill-nothing (t .size) (t .front .0) (t .key) img (s .pre .1) (at-copies (s .pre .1 .read .list .order) (s .pre .2)) (both c8 .read) n)
     (record { answer = refl; bytes = c .before .before .remove-front-at .ensures })
 
 pub refill-spec : {M : Type 1} → statement M
@@ -144,7 +145,7 @@ refill-spec =
     (tie.spec
     read-behind-requires
     enum-known-table
-    enum-known-n0
+    enum-known-a
     least-behind-requires
     enum-known-key
     first-of-requires

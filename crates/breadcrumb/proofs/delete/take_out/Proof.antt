@@ -1,18 +1,24 @@
--- `breadcrumb::delete::take_out` meets its contract. One copy leaves the backyard bucket.
+-- `breadcrumb::delete::take_out` meets its contract. One copy leaves the backyard bucket, from the slot behind the members below it.
 use mathlib.Core.Path.{refl}
 use borrow.Author.Needs.{needs}
 use Rattle.breadcrumb.specs.Steps.{takenOut}
+use Rattle.breadcrumb.proofs.StepLaws.{below-at}
 use Rattle.breadcrumb.proofs.delete.take_out.Statement.{statement}
 use Rattle.breadcrumb.proofs.delete.take_out.Tie as tie
 
-mul-remove-back-at : tie.Need-mul-remove-back-at
-mul-remove-back-at c = search needs
+mul-member : tie.Need-mul-member
+mul-member c = search needs
 
-add-remove-back-at : tie.Need-add-remove-back-at
-add-remove-back-at c = search needs
+add-member : tie.Need-add-member
+add-member c = search needs
+
+rank-back-at-requires : tie.Need-rank-back-at-requires
+rank-back-at-requires c κs = search needs
 
 remove-back-at-requires : tie.Need-remove-back-at-requires
-remove-back-at-requires c κs = search needs
+remove-back-at-requires c κs =
+    let s = c .before .before .before .before .before .before in
+    (s .pre .back, rw (c .before .rank-back-at .ensures) (below-at (s .pre .back .list .order) (s .pre .there)))
 
 add-result : tie.Need-add-result
 add-result c = search needs
@@ -28,8 +34,9 @@ pub take-out-spec : {M : Type 1} → statement M
 take-out-spec =
     tie.close
     (tie.spec
-    mul-remove-back-at
-    add-remove-back-at
+    mul-member
+    add-member
+    rank-back-at-requires
     remove-back-at-requires
     add-result
     same-length

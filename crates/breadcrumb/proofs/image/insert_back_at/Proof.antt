@@ -28,7 +28,7 @@ part-insert-back-end c = search needs
 insert-back-requires : tie.Need-insert-back-requires
 insert-back-requires c κs =
     let p = c .before .before .before .pre in
-    rw (c .before .table-of .ensures, part-bucket) (p .0 .sound, p .1, p .2)
+    rw (c .before .table-of .ensures, part-bucket) (p .0 .sound, p .1, p .2, p .3)
 
 same-length : tie.Need-same-length
 same-length c = search needs

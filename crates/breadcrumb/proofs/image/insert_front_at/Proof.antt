@@ -21,7 +21,7 @@ part-insert-front-end : tie.Need-part-insert-front-end
 part-insert-front-end c = search needs
 
 insert-front-requires : tie.Need-insert-front-requires
-insert-front-requires c κs = let p = c .before .before .pre in rw part-bucket (p .0 .sound, p .1, p .2)
+insert-front-requires c κs = let p = c .before .before .pre in rw part-bucket (p .0 .sound, p .1, p .2, p .3)
 
 same-length : tie.Need-same-length
 same-length c = search needs

@@ -29,7 +29,7 @@ returns : tie.Need-returns
 returns c =
     let c3 = c .before .before .before in
     let s = c3 .before in
-    back-says (s .args .size) (s .args .bucket .0) (s .args .image .now) (s .pre) (λ i. c3 .shared-slice-known .given i .fits)
+    back-says (s .args .size) (s .args .bucket .0) (s .args .member) (s .args .image .now) (s .pre .0) (λ i. c3 .shared-slice-known .given i .fits)
     (rw (c .before .before .table-of .ensures, part-bucket) at (c .read-back .ensures))
 
 pub read-back-at-spec : {M : Type 1} → statement M

@@ -26,7 +26,7 @@ returns : tie.Need-returns
 returns c =
     let s = c .before .before .before in
     let img = s .args .image .now in
-    front-says (s .args .front .0) img (s .pre) (λ i. c .before .before .shared-slice-known .given i .fits)
+    front-says (s .args .front .0) (s .args .key) img (s .pre .0) (λ i. c .before .before .shared-slice-known .given i .fits)
     (rw part-bucket at (c .read-front .ensures))
 
 pub read-front-at-spec : {M : Type 1} → statement M

@@ -28,7 +28,7 @@ part-remove-back-end c = search needs
 remove-back-requires : tie.Need-remove-back-requires
 remove-back-requires c κs =
     let p = c .before .before .before .pre in
-    rw (c .before .table-of .ensures, part-bucket) (p .0 .sound, p .1, p .2)
+    rw (c .before .table-of .ensures, part-bucket) (p .0 .sound, p .1 .inside, p .1 .same)
 
 same-length : tie.Need-same-length
 same-length c = search needs

@@ -21,7 +21,7 @@ part-remove-front-end : tie.Need-part-remove-front-end
 part-remove-front-end c = search needs
 
 remove-front-requires : tie.Need-remove-front-requires
-remove-front-requires c κs = let p = c .before .before .pre in rw part-bucket (p .0 .sound, p .1, p .2)
+remove-front-requires c κs = let p = c .before .before .pre in rw part-bucket (p .0 .sound, p .1 .inside, p .1 .same)
 
 same-length : tie.Need-same-length
 same-length c = search needs

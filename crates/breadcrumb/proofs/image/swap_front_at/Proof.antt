@@ -3,6 +3,7 @@ use mathlib.Core.Path.{_∙_}
 use borrow.Author.Needs.{needs}
 use Rattle.multiset.specs.Multisets.{added, removed}
 use Rattle.breadcrumb.specs.Steps.{inFront}
+use Rattle.breadcrumb.proofs.StepLaws.{at-copies}
 use Rattle.breadcrumb.proofs.WriteLaws.{list-removed, front-put, inFront-put, putFront-put}
 use Rattle.breadcrumb.proofs.image.swap_front_at.Statement.{statement}
 use Rattle.breadcrumb.proofs.image.swap_front_at.Tie as tie
@@ -16,10 +17,10 @@ insert-front-at-requires c κs =
     let s = c3 .before .before .before in
     let f = s .args .front .0 in
     let img = s .args .image .now in
-    let l = list-removed (s .args .from) (inFront f img) (s .pre .0 .list) (s .pre .1) in
+    let l = list-removed (s .args .from) (inFront f img) (s .pre .0 .list) (at-copies (s .pre .0 .list .order) (s .pre .1)) in
     let zs = removed (s .args .from) (inFront f img) in
     rw (c3 .remove-front-at .ensures)
-    (front-put f zs img (s .pre .0 .inside) (l .0), rw (inFront-put f zs img (s .pre .0 .inside) (l .0)) (l .1), s .pre .3)
+    (front-put f zs img (s .pre .0 .inside) (l .0), rw (inFront-put f zs img (s .pre .0 .inside) (l .0)) (l .1), s .pre .2, rw (inFront-put f zs img (s .pre .0 .inside) (l .0)) (s .pre .3))
 
 same-length : tie.Need-same-length
 same-length c = search needs
@@ -30,7 +31,7 @@ returns c =
     let s = c6 .before .before .before in
     let f = s .args .front .0 in
     let img = s .args .image .now in
-    let l = list-removed (s .args .from) (inFront f img) (s .pre .0 .list) (s .pre .1) in
+    let l = list-removed (s .args .from) (inFront f img) (s .pre .0 .list) (at-copies (s .pre .0 .list .order) (s .pre .1)) in
     let zs = removed (s .args .from) (inFront f img) in
     rw (c6 .remove-front-at .ensures, inFront-put f zs img (s .pre .0 .inside) (l .0)) at (c .before .before .insert-front-at .ensures)
     ∙ putFront-put f zs img (s .pre .0 .inside) (l .0) (added (s .args .to) zs)

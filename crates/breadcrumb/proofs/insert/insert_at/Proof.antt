@@ -3,6 +3,7 @@ use mathlib.Core.Path.{_≡_, refl}
 use native.Mathlib.Omega.{arith}
 use lib.ListN.{length}
 use borrow.Author.Needs.{needs}
+use Rattle.multiset.specs.Multisets.{below}
 use Rattle.breadcrumb.specs.Steps.{inFront, FrontRead}
 use Rattle.machine.specs.Machine.{insertAt}
 use Rattle.breadcrumb.proofs.StepLaws.{front-in, front-read, front-full, front-unsound, changes}
@@ -11,7 +12,7 @@ use Rattle.breadcrumb.proofs.insert.insert_at.Statement.{statement}
 use Rattle.breadcrumb.proofs.insert.insert_at.Tie as tie
 
 read-front-at-requires : tie.Need-read-front-at-requires
-read-front-at-requires c κs = front-in (c .before .before .before .pre .within)
+read-front-at-requires c κs = (front-in (c .before .before .before .pre .within), c .before .before .before .pre .key)
 
 enum-known-n : tie.Need-enum-known-n
 enum-known-n c = search needs
@@ -27,7 +28,7 @@ unfolding insertAt
 returns c =
     let c6 = c .before .before .before .before .before .before in
     let a = c6 .args in
-    let u = front-unsound (a .target .front .0) (a .image .now) (c .before .before .read-front-at .ensures) (c .enum-told .given .1) in
+    let u = front-unsound (a .target .front .0) (a .target .key) (a .image .now) (c .before .before .read-front-at .ensures) (c .enum-told .given .1) in
     record { answer = rw u; bytes = rw u }
 
 -- the front bucket was read
@@ -35,16 +36,17 @@ front : (c : tie.After-known-told) →
     let s = c .before .before .before .before .before .before .before in
     let t = s .args .target in
     FrontRead (t .front .0) (s .args .image .now) × (length (inFront (t .front .0) (s .args .image .now)) ≡ c .before .n .given .0 .0)
+    × (c .before .n .given .0 .1 .0 ≡ below (t .key) (inFront (t .front .0) (s .args .image .now)))
 front c =
     let c3 = c .before .before .before in
     let c7 = c3 .before .before .before .before in
-    front-read (c7 .args .target .front .0) (c7 .args .image .now) (c3 .read-front-at .ensures) (c .before .n .given .1)
+    front-read (c7 .args .target .front .0) (c7 .args .target .key) (c7 .args .image .now) (c3 .read-front-at .ensures) (c .before .n .given .1)
 
 insert-front-at-requires : tie.Need-insert-front-at-requires
 insert-front-at-requires c κs =
     let c9 = c .before .before .before .before .before .before .before .before .before in
     let r = front (c .before .before) in
-    (r .0, omega (arith, r .1), c9 .pre .key)
+    (r .0, omega (arith, r .1), c9 .pre .key, r .2)
 
 same-length-2 : tie.Need-same-length-2
 same-length-2 c = search needs
@@ -62,7 +64,7 @@ insert-full-requires : tie.Need-insert-full-requires
 insert-full-requires c κs =
     let c9 = c .before .before .before .before .before .before .before .before .before in
     let r = front (c .before .before) in
-    (c9 .pre, front-full r (omega arith))
+    (c9 .pre, front-full (r .0) (r .1) (omega arith), r .2)
 
 same-length-3 : tie.Need-same-length-3
 same-length-3 c = search needs

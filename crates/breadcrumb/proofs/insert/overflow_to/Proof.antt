@@ -4,12 +4,13 @@ use Prim.Native.Nat.{_≤_, _<_}
 use native.Mathlib.Omega.{arith}
 use borrow.Author.Needs.{needs}
 use Rattle.multiset.specs.Multisets.{added, removed, largest}
+use Rattle.multiset.proofs.SlotLaws.{below-without}
 use Rattle.crumbmap.specs.Layouts.{layout1}
 use Rattle.machine.specs.Images.{putFront}
 use Rattle.breadcrumb.specs.Steps.{inFront}
-use Rattle.breadcrumb.proofs.StepLaws.{largest-key}
+use Rattle.breadcrumb.proofs.StepLaws.{largest-key, last-at}
 use Rattle.breadcrumb.proofs.WriteLaws.{list-swapped, inBack-kept, back-kept, putFront-same}
-use Rattle.breadcrumb.proofs.InsertLaws.{overflowed-swap, overflowed-same}
+use Rattle.breadcrumb.proofs.InsertLaws.{over-largest, over-key, overflowed-swap, overflowed-same}
 use Rattle.breadcrumb.proofs.insert.overflow_to.Statement.{statement}
 use Rattle.breadcrumb.proofs.insert.overflow_to.Tie as tie
 
@@ -20,7 +21,10 @@ swap-front-at-requires : tie.Need-swap-front-at-requires
 swap-front-at-requires c κs =
     let c7 = c .before .before .before .before .before .before .before in
     let p = c7 .pre in
-    let k = largest-key (p .whole) in rw (c .before .before .largest-front-at .ensures) (p .whole .read, k .0, k .1, p .placed .key)
+    let t = c7 .args .target in
+    let xs = inFront (t .front .0) (c7 .args .image .now) in
+    let l = c .before .before .largest-front-at .ensures in
+    rw l (p .whole .read, last-at (p .whole), p .placed .key, p .slot ∙ sym (below-without (t .key) (largest xs) xs (omega (arith, l))))
 
 -- the front bucket after the swap
 swapped : (c : tie.After-swap-front-at) →
@@ -60,6 +64,8 @@ insert-back-at-requires c κs =
       back-kept (t .front .0) zs img (s .pre .whole .read .inside) l (t .size) (s .args .way .bucket .0) (s .pre .placed .within .front) (s .pre .back),
       rw (inBack-kept (t .front .0) zs img (s .pre .whole .read .inside) l (t .size) (s .args .way .bucket .0) (s .pre .placed .within .front)) (s .pre .room),
       omega (arith, k .1, s .pre .crumb),
+      rw (inBack-kept (t .front .0) zs img (s .pre .whole .read .inside) l (t .size) (s .args .way .bucket .0) (s .pre .placed .within .front))
+          (rw (over-largest (t .key) xs (s .pre .whole .read .list .order) (omega (arith, c3 .before .before .if1 .taken, c6 .largest-front-at .ensures))) at (s .pre .place)),
     )
 
 add-result : tie.Need-add-result
@@ -100,7 +106,16 @@ add-insert-back-at-2 : tie.Need-add-insert-back-at-2
 add-insert-back-at-2 c = search needs
 
 insert-back-at-requires-2 : tie.Need-insert-back-at-requires-2
-insert-back-at-requires-2 c κs = search needs
+insert-back-at-requires-2 c κs =
+    let c1 = c .before in
+    let s = c1 .before .before .before .before .before .before in
+    let t = s .args .target in
+    let xs = inFront (t .front .0) (s .args .image .now) in (
+      s .pre .back,
+      s .pre .room,
+      omega (arith, s .pre .placed .key, s .pre .crumb),
+      rw (over-key (t .key) xs (s .pre .whole .read .list .order) (omega (arith, c1 .if1 .left, c1 .before .largest-front-at .ensures))) at (s .pre .place),
+    )
 
 add-result-2 : tie.Need-add-result-2
 add-result-2 c = search needs

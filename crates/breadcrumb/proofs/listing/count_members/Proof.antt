@@ -13,13 +13,13 @@ use Rattle.breadcrumb.proofs.listing.count_members.Tie as tie
 -- the front bucket was read, and those behind it
 front : (c : tie.After-known-told)
     → let s = c .before .before .before .before .before .args in FrontRead (s .front .0) (s .image .now) × (length (inFront (s .front .0) (s .image .now)) ≡ c .before .n .given .0 .0)
-front c = let s = c .before .before .before .before .before .args in front-read (s .front .0) (s .image .now) (c .before .before .before .read-front-at .ensures) (c .before .n .given .1)
+front c = let s = c .before .before .before .before .before .args in let r = front-read (s .front .0) 0 (s .image .now) (c .before .before .before .read-front-at .ensures) (c .before .n .given .1) in (r .0, r .1)
 
 both : (c : tie.After-enum-told2) → let s = c .before .before .before .before .before .before .before .before .before .args in BothRead (s .size) (s .front .0) (s .image .now)
-both c = let s = c .before .before .before .before .before .before .before .before .before .args in both-hold (s .size) (s .front .0) (s .image .now) (c .before .before .read-behind .ensures) (c .enum-told2 .given .1) .read
+both c = let s = c .before .before .before .before .before .before .before .before .before .args in both-hold (s .size) (s .front .0) 0 (s .image .now) (c .before .before .read-behind .ensures) (c .enum-told2 .given .1) .0 .read
 
 read-front-at-requires : tie.Need-read-front-at-requires
-read-front-at-requires c κs = front-in (c .before .pre)
+read-front-at-requires c κs = (front-in (c .before .pre), omega arith)
 
 enum-known-n : tie.Need-enum-known-n
 enum-known-n c = search needs
@@ -31,7 +31,7 @@ returns : tie.Need-returns
 unfolding membersAt
 returns c =
     let s = c .before .before .before .before .args in
-    rw (front-unsound (s .front .0) (s .image .now) (c .before .before .read-front-at .ensures) (c .enum-told .given .1))
+    rw (front-unsound (s .front .0) 0 (s .image .now) (c .before .before .read-front-at .ensures) (c .enum-told .given .1))
 
 returns-2 : tie.Need-returns-2
 returns-2 c =
@@ -61,7 +61,7 @@ returns-3 c =
     let s = c .before .before .before .before .before .before .before .before .before .before in
     let r = front (c .before .before .before .before .before) in
     held-unsound (s .args .size) (s .args .front .0) (s .args .image .now) (r .0) (omega (arith, r .1))
-    (both-unsound (s .args .size) (s .args .front .0) (s .args .image .now) (c .before .before .before .read-behind .ensures) (c .before .table .given .1))
+    (both-unsound (s .args .size) (s .args .front .0) 0 (s .args .image .now) (c .before .before .before .read-behind .ensures) (c .before .table .given .1))
 
 returns-4 : tie.Need-returns-4
 returns-4 c =

@@ -14,21 +14,14 @@ use Rattle.minifilter.proofs.edit.insert_back.Statement.{statement}
 use Rattle.minifilter.proofs.edit.insert_back.Tie as tie
 
 -- the slot is one that the bucket has
-slot-le : (c : tie.After-find-back) → c .find-back .result .slot ≤ 21
-slot-le c =
-    let s = c .before .before .before in
-    let b = s .args .b .now in
-    let x = s .args .member in
-    omega (arith, c .find-back .ensures .from, below-le-length x (backList b), s .pre .1)
-
-find-back-requires : tie.Need-find-back-requires
-find-back-requires c κs = search needs
+slot-le : (c : tie.After-slice-known) → c .before .args .slot ≤ 21
+slot-le c = let s = c .before in omega (arith, s .pre .3, below-le-length (s .args .member) (backList (s .args .b .now)), s .pre .1)
 
 insert-slot-requires : tie.Need-insert-slot-requires
 insert-slot-requires c κs =
-    let s = c .before .before .before .before in
+    let s = c .before .before in
     let b = s .args .b .now in
-    let small = back-word-lt b (below-bytes b (c .before .before .before .slice-known .given)) (s .pre .0) (s .pre .1) in
+    let small = back-word-lt b (below-bytes b (c .before .slice-known .given)) (s .pre .0) (s .pre .1) in
     (s .pre .0 .long, lit≤ tt, refl, omega (arith, slot-le (c .before)), omega (arith, s .pre .2), small)
 
 sub-insert-crumb : tie.Need-sub-insert-crumb
@@ -43,8 +36,8 @@ part-insert-crumb-end c = search needs
 insert-crumb-requires : tie.Need-insert-crumb-requires
 insert-crumb-requires c κs =
     let put = c .before .before .before .insert-slot in
-    let found = c .before .before .before .before .before in
-    (rw (crumbs-long (put .last .0) (put .kept .0 ∙ found .before .before .before .pre .0 .long)) (omega (arith, slot-le found)), omega arith)
+    let known = c .before .before .before .before .before in
+    (rw (crumbs-long (put .last .0) (put .kept .0 ∙ known .before .pre .0 .long)) (omega (arith, slot-le known)), omega arith)
 
 same-length : tie.Need-same-length
 same-length c = search needs
@@ -53,25 +46,16 @@ returns : tie.Need-returns
 returns c =
     let crumb = c .before .before .insert-crumb in
     let put = c .before .before .before .before .before .before .insert-slot in
-    let found = c .before .before .before .before .before .before .before .before in
-    let s = found .before .before .before in
+    let known = c .before .before .before .before .before .before .before .before in
+    let s = known .before in
     let b = s .args .b .now in
     let x = s .args .member in
     let new = put .last .0 in
-    let at = found .find-back .ensures .from in
-    back-inserted b (below-bytes b (found .before .before .slice-known .given)) (s .pre .0) x new (crumb .last .0) (s .pre .2) (s .pre .1)
-    (put .ensures ∙ ap (λ (k : ℕ). slotInserted 52 k (x / 16) b) at)
-    (crumb .ensures ∙ ap (λ (k : ℕ). crumbInserted k (x % 16) (take 12 (drop 52 new))) at)
+    back-inserted b (below-bytes b (known .slice-known .given)) (s .pre .0) x new (crumb .last .0) (s .pre .2) (s .pre .1)
+    (put .ensures ∙ ap (λ (k : ℕ). slotInserted 52 k (x / 16) b) (s .pre .3))
+    (crumb .ensures ∙ ap (λ (k : ℕ). crumbInserted k (x % 16) (take 12 (drop 52 new))) (s .pre .3))
 
 pub insert-back-spec : {M : Type 1} → statement M
 insert-back-spec =
     tie.close
-    (tie.spec
-    find-back-requires
-    insert-slot-requires
-    sub-insert-crumb
-    part-insert-crumb-start
-    part-insert-crumb-end
-    insert-crumb-requires
-    same-length
-    returns)
+    (tie.spec insert-slot-requires sub-insert-crumb part-insert-crumb-start part-insert-crumb-end insert-crumb-requires same-length returns)

@@ -25,7 +25,7 @@ returns : tie.Need-returns Inv-loop μ-loop
 returns c =
     let a = c .before .before .args in
     let cs = slotCrumbs true (a .b .now) in
-    rw (c .if1 .taken) (sym (marked-all (take (a .members) cs) (below-take 16 (a .members) cs (below-slotCrumbs true (a .b .now)))))
+    rw (c .if1 .taken) (sym (marked-all (take (a .members) cs) (below-take 16 (a .members) cs (below-slotCrumbs (a .b .now)))))
 
 loop-holds : tie.Need-loop-holds Inv-loop μ-loop
 loop-holds c = (zero-le, refl)
@@ -42,7 +42,7 @@ crumbs-are : (c : tie.At-loop Inv-loop μ-loop)
 crumbs-are c =
     let s = c .before .before .before in
     let b = s .args .b .now in
-    length-take-le (s .args .members) (slotCrumbs true b) (omega (arith, length-slotCrumbs true b (s .pre .0)))
+    length-take-le (s .args .members) (slotCrumbs true b) (omega (arith, length-slotCrumbs b (s .pre .0)))
 
 -- what `crumb_of` gave is the member's
 crumb-is : (c : tie.After-crumb-of Inv-loop μ-loop)

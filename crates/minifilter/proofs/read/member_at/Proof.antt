@@ -1,8 +1,6 @@
--- `minifilter::read::member_at` meets its contract: tag and crumb are those of the slot, and a front bucket's slots have the crumb 0.
-use Prim.Native.Nat.{ℕ, _<_}
+-- `minifilter::read::member_at` meets its contract: tag and crumb are those of the slot.
 use native.Mathlib.Omega.{arith}
 use borrow.Author.Needs.{needs}
-use lib.ListN.{getD-replicate}
 use Rattle.minifilter.proofs.PassLaws.{slotCount-le}
 use Rattle.minifilter.proofs.read.member_at.Statement.{statement}
 use Rattle.minifilter.proofs.read.member_at.Tie as tie
@@ -28,14 +26,8 @@ add-result c = search needs
 returns : tie.Need-returns
 returns c = rw (c .before .if1 .taken, c .before .before .tag-of .ensures .0, c .crumb-of .ensures .0)
 
-mul-result-2 : tie.Need-mul-result-2
-mul-result-2 c = search needs
-
 returns-2 : tie.Need-returns-2
-returns-2 c =
-    let s = c .before .before .before in
-    let l : s .args .slot < 28 = rw (c .if1 .left) at (s .pre .2) in
-    rw (c .if1 .left, c .before .tag-of .ensures .0, getD-replicate {A = ℕ} 28 (s .args .slot) 0 0 l) (omega arith)
+returns-2 c = rw (c .if1 .left, c .before .tag-of .ensures .0)
 
 pub member-at-spec : {M : Type 1} → statement M
 member-at-spec =
@@ -48,5 +40,4 @@ member-at-spec =
     crumb-of-requires
     add-result
     returns
-    mul-result-2
     returns-2)

@@ -28,20 +28,21 @@ enum-told c = search needs
 
 -- what is to be said, by what `read_slots` said
 by-slots : (c : tie.After-read-slots) → let a = c .before .before .args in
-    readingOf (backMembers layout1 (a .size) (a .bucket .0) (a .b .now)) ≡ backReading (a .size) (a .bucket .0) (a .b .now) (c .read-slots .result)
+    readingOf (a .member) (backMembers layout1 (a .size) (a .bucket .0) (a .b .now))
+    ≡ backReading (a .size) (a .bucket .0) (a .b .now) (c .read-slots .result)
 by-slots c =
     let s = c .before .before in
     rw (c .read-slots .ensures)
-    (reading-back (s .args .size) (s .args .bucket .0) (s .args .b .now) (s .pre .0) (c .before .shared-slice-known .given 63 .fits))
+    (reading-back (s .args .member) (s .args .size) (s .args .bucket .0) (s .args .b .now) (s .pre .0) (c .before .shared-slice-known .given 63 .fits))
 
 returns : tie.Need-returns
 returns c = sym (by-slots (c .before .before) ∙ rw (c .enum-told .given .1))
 
 -- where it gave a member count
 by-rest : (c : tie.After-members) → let a = c .before .before .before .before .args in
-    readingOf (backMembers layout1 (a .size) (a .bucket .0) (a .b .now))
+    readingOf (a .member) (backMembers layout1 (a .size) (a .bucket .0) (a .b .now))
     ≡ countIf (eqb (getD (a .b .now) 63 0) 0 && valid (a .size) (a .bucket .0) (take (c .members .given .0 .0) (slotCrumbs true (a .b .now))))
-    (c .members .given .0 .0)
+    (c .members .given .0 .0) (c .members .given .0 .1 .0)
 by-rest c = by-slots (c .before .before) ∙ rw (c .members .given .1)
 
 shared-slice-read-if1 : tie.Need-shared-slice-read-if1
@@ -59,7 +60,8 @@ valid-crumbs-requires c κs = search needs
 room : (c : tie.After-members) → c .members .given .0 .0 ≤ 22
 room c =
     let r = c .before .before in
-    reading-room true 22 (c .members .given .0 .0) (r .before .before .args .b .now) (omega arith) (omega arith)
+    reading-room (r .before .before .args .member) (c .members .given .0 .0) (c .members .given .0 .1 .0)
+    (r .before .before .args .b .now)
     (sym (r .read-slots .ensures) ∙ c .members .given .1)
 
 crumbs-marked-requires : tie.Need-crumbs-marked-requires
@@ -69,7 +71,8 @@ crumbs-marked-requires c κs =
 
 -- where byte 63 is 0
 by-crumbs : (c : tie.After-crumbs-marked) → let m = c .before .before .before .before .before in let a = m .before .before .before .before .args in
-    readingOf (backMembers layout1 (a .size) (a .bucket .0) (a .b .now)) ≡ countIf (c .crumbs-marked .result) (m .members .given .0 .0)
+    readingOf (a .member) (backMembers layout1 (a .size) (a .bucket .0) (a .b .now))
+    ≡ countIf (c .crumbs-marked .result) (m .members .given .0 .0) (m .members .given .0 .1 .0)
 by-crumbs c =
     let m = c .before .before .before .before .before in
     let a = m .before .before .before .before .args in
@@ -79,7 +82,7 @@ by-crumbs c =
     by-rest m
     ∙ rw (
       eq-eqb (getD (a .b .now) 63 0) 0 (c .before .before .if1 .left),
-      marked-valid (a .size) (a .bucket .0) (v .result) (v .ensures) (take n cs) (below-take 16 n cs (below-slotCrumbs true (a .b .now))),
+      marked-valid (a .size) (a .bucket .0) (v .result) (v .ensures) (take n cs) (below-take 16 n cs (below-slotCrumbs (a .b .now))),
       c .crumbs-marked .ensures,
     )
 

@@ -9,7 +9,7 @@ read-slots-requires : tie.Need-read-slots-requires
 read-slots-requires c κs = search needs
 
 returns : tie.Need-returns
-returns c = c .read-slots .ensures ∙ sym (reading-front (c .before .before .args .b .now) (c .before .before .pre))
+returns c = let s = c .before .before in c .read-slots .ensures ∙ sym (reading-front (s .args .key) (s .args .b .now) (s .pre .0))
 
 pub read-front-spec : {M : Type 1} → statement M
 read-front-spec = tie.close (tie.spec read-slots-requires returns)

@@ -1,17 +1,28 @@
 -- `minifilter::word::bounds` meets its contract: the zeros from a mini-bucket's first bit are its members'.
-use Prim.Native.Nat.{_/_, _^_, _<_}
+use mathlib.Core.Path.{_≡_}
+use Prim.Native.Nat.{ℕ, suc, _-_, _/_, _^_, _<_, _≤_}
 use native.Mathlib.Omega.{arith}
 use borrow.Author.Needs.{needs}
 use lib.Count.{trailing-le}
-use Rattle.minifilter.proofs.SelectLaws.{place-minisOf, past-minisOf}
+use Rattle.multiset.specs.Multisets.{below}
+use Rattle.minifilter.specs.Readings.{minisOf}
+use Rattle.multiset.proofs.MultisetLaws.{below-suc}
+use Rattle.minifilter.proofs.SelectLaws.{place-minisOf, rest-minisOf}
 use Rattle.minifilter.proofs.word.bounds.Statement.{statement}
 use Rattle.minifilter.proofs.word.bounds.Tie as tie
+
+-- the mini-bucket's first slot
+abbrev from : (c : tie.After-first-place) → ℕ
+from c = below (c .before .args .mini) (minisOf (c .before .args .word))
+
+from-le : (c : tie.After-first-place) → from c ≤ below (suc (c .before .args .mini)) (minisOf (c .before .args .word))
+from-le c = let a = c .before .args in omega (arith, below-suc (a .mini) (minisOf (a .word)))
 
 -- the first bit is one of the 64
 place-lt : (c : tie.After-first-place) → c .first-place .result < 64
 place-lt c =
     let s = c .before in
-    omega (arith, place-minisOf (s .args .word) (s .args .mini) (s .fits .word .fits) (s .pre .0) (s .pre .1))
+    omega (arith, place-minisOf (s .args .word) (s .args .mini) (s .fits .word .fits) (s .pre .0) (s .pre .1) (from c) (from-le c))
 
 first-place-requires : tie.Need-first-place-requires
 first-place-requires c κs = search needs
@@ -36,9 +47,11 @@ cast-t10 c = omega (arith, place-lt c, trailing-le 64 (c .before .args .word / 2
 
 returns : tie.Need-returns
 returns c =
-    let s = c .before in (
-      omega arith,
-      past-minisOf (s .args .word) (s .args .mini) (s .fits .word .fits) (s .pre .0) (s .pre .1) (c .first-place .result) (c .first-place .ensures),
+    let s = c .before in
+    let at : c .first-place .result - s .args .mini ≡ from c = omega arith in (
+      at,
+      rw (at, c .first-place .ensures)
+          (rest-minisOf (s .args .word) (s .args .mini) (s .fits .word .fits) (s .pre .0) (s .pre .1) (from c) (omega arith) (from-le c)),
     )
 
 pub bounds-spec : {M : Type 1} → statement M

@@ -1,0 +1,16 @@
+-- `find::copies_front` meets its contract: a key is its mini-bucket and the rest.
+use native.Mathlib.Nat.{div-add-mod'}
+use native.Mathlib.Omega.{arith}
+use Rattle.minifilter.proofs.find.copies_front.Statement.{statement}
+use Rattle.minifilter.proofs.find.copies_front.Tie as tie
+
+copies-in-requires : tie.Need-copies-in-requires
+copies-in-requires c κs =
+    let s = c .before in
+    (s .pre .0, omega (arith, s .pre .1), omega arith, rw (div-add-mod' (s .args .key) 65536) (s .pre .2))
+
+returns : tie.Need-returns
+returns c = rw (div-add-mod' (c .before .before .args .key) 65536) at (c .copies-in .ensures)
+
+pub copies-front-spec : {M : Type 1} → statement M
+copies-front-spec = tie.close (tie.spec copies-in-requires returns)
