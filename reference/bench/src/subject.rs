@@ -4,6 +4,7 @@ use crate::measure::sources;
 use model::catalogue::Catalogue;
 use std::collections::HashMap;
 use std::hash::{BuildHasherDefault, Hasher};
+use std::ops::{Deref, DerefMut};
 
 /// One implementation with its own buffers. Each method does a whole batch, so that what picks
 /// the implementation is not in the time; each gives a number that all must agree on.
@@ -31,14 +32,48 @@ pub trait Subject {
     fn bytes(&self) -> usize;
 }
 
+/// Bytes that begin at a cache line: a bucket takes one line in every implementation's buffers.
+struct Lines {
+    bytes: Vec<u8>,
+    from: usize,
+    length: usize,
+}
+
+impl Lines {
+    fn of(image: &[u8]) -> Lines {
+        let bytes = vec![0; image.len() + 63];
+        let from = bytes.as_ptr().align_offset(64);
+        let mut lines = Lines {
+            bytes,
+            from,
+            length: image.len(),
+        };
+        lines.copy_from_slice(image);
+        lines
+    }
+}
+
+impl Deref for Lines {
+    type Target = [u8];
+    fn deref(&self) -> &[u8] {
+        &self.bytes[self.from..self.from + self.length]
+    }
+}
+
+impl DerefMut for Lines {
+    fn deref_mut(&mut self) -> &mut [u8] {
+        &mut self.bytes[self.from..self.from + self.length]
+    }
+}
+
 /// An implementation of the catalogue.
 pub struct Filter<C> {
     name: &'static str,
     catalogue: C,
     start: Vec<u8>,
-    image: Vec<u8>,
-    halves: [Vec<u8>; 2],
-    target: Vec<u8>,
+    image: Lines,
+    halves: [Lines; 2],
+    target: Lines,
     out: Vec<u64>,
 }
 
@@ -55,9 +90,9 @@ impl<C: Catalogue> Filter<C> {
             name,
             catalogue,
             start: start.to_vec(),
-            image: start.to_vec(),
-            halves: halves.clone(),
-            target: start.to_vec(),
+            image: Lines::of(start),
+            halves: halves.each_ref().map(|half| Lines::of(half)),
+            target: Lines::of(start),
             out: vec![0; members],
         }
     }
@@ -77,23 +112,25 @@ impl<C: Catalogue> Subject for Filter<C> {
     }
 
     fn ask(&mut self, hashes: &[u64]) -> u64 {
-        let found = |&hash: &u64| self.catalogue.ask(&self.image, hash) / 16 % 16;
+        let image: &[u8] = &self.image;
+        let found = |&hash: &u64| self.catalogue.ask(image, hash) / 16 % 16;
         hashes.iter().filter(|hash| found(hash) != 0).count() as u64
     }
 
     fn count(&mut self, hashes: &[u64]) -> u64 {
-        let copies = |&hash: &u64| self.catalogue.count(&self.image, hash) & 0xFFFFFFFF;
+        let image: &[u8] = &self.image;
+        let copies = |&hash: &u64| self.catalogue.count(image, hash) & 0xFFFFFFFF;
         hashes.iter().map(copies).sum()
     }
 
     fn insert(&mut self, hashes: &[u64]) -> u64 {
-        let image = &mut self.image;
+        let image: &mut [u8] = &mut self.image;
         let insert = |&hash: &u64| accepted(self.catalogue.insert(image, hash));
         hashes.iter().map(insert).sum()
     }
 
     fn delete(&mut self, hashes: &[u64]) -> u64 {
-        let image = &mut self.image;
+        let image: &mut [u8] = &mut self.image;
         let delete = |&hash: &u64| accepted(self.catalogue.delete(image, hash));
         hashes.iter().map(delete).sum()
     }
