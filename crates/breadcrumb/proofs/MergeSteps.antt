@@ -1,56 +1,45 @@
--- The steps of a merge: what a checked image gives, keys put into the target one by one, and the shortcut of a front bucket whose bytes
--- serve as the merged one. Main results: `good-of`, `members-parts`, `insertAll-append`, `insertAll-good`, `front-filled`, `front-taken`,
--- `key-took` and `key-full`, `merge-on` and `merge-end`, `check-refuses`.
-use mathlib.Core.Path.{_≡_, refl, sym, _∙_, ap}
-use Prim.Native.Nat.{ℕ, zero, suc, _+_, _*_, _-_, _≤_, _<_}
+-- The steps of a merge: what a checked image gives, inserts one after the other, and one front bucket after the other.
+-- Main results: `good-of`, `members-split`, `insertAll-append`, `insertAll-good`, `merge-on` and `merge-end`, `check-refuses`.
+use mathlib.Core.Path.{_≡_, refl, sym, _∙_}
+use Prim.Native.Nat.{ℕ, suc, _+_, _-_, _≤_, _<_}
 use mathlib.Core.Bool.{Bool, true, false, cond}
-use mathlib.Core.List.{List, [], _∷_, _++_, append-assoc}
+use mathlib.Core.List.{List, [], _∷_, _++_, append-nil}
 use mathlib.Core.Option.{Option, none, some}
 use native.Mathlib.Numerals.{add-one}
 use native.Mathlib.Omega.{arith}
-use native.Mathlib.Decide.{ℕ-discrete}
-use lib.ListN.{length, take, drop, getD, length-append, length-drop, take-append-drop}
-use lib.Seq.{take-at, drop-at, drop-append-le, drop-cons, drop-drop, length-take-le}
+use native.Mathlib.Decide.{decLe, ℕ-discrete}
+use lib.ListN.{length, take, drop, getD, length-drop, drop-of-length-le}
+use lib.Seq.{take-all, take-at, drop-at, drop-append-le}
 use lib.Dec.{T, eqb, ltb}
-use borrow.Author.Tests.{lt-ltb, eqb-true, eqb-false}
-use Rattle.multiset.specs.Multisets.{added, copies, ascending, Below}
-use Rattle.multiset.proofs.MultisetLaws.{hit-same, copies-cons, copies-append, copies-added, ascending-tail, ascending-cons, ascending-added, ascending-unique, head-least, largest-max, length-added}
-use Rattle.multiset.proofs.DigitLaws.{below-drop}
+use Rattle.multiset.specs.Multisets.{copies, ascending, Below}
+use Rattle.multiset.proofs.MultisetLaws.{hit-same, copies-cons, copies-append, ascending-tail, ascending-cons, ascending-unique, head-least, largest-max}
 use Rattle.crumbmap.specs.Layouts.{Layout, layout1, keys as allKeys, fronts, backyards}
 use Rattle.crumbmap.specs.CrumbMap.{firstBucket, secondBucket}
 use Rattle.crumbmap.proofs.CrumbMapLaws.{bucketOf-lt}
 use Rattle.minifilter.specs.Buckets.{Fits64, frontBytes, FrontList}
-use Rattle.minifilter.proofs.BucketLaws.{length-frontBytes}
-use Rattle.minifilter.proofs.BucketLaws.{fits1}
-use Rattle.minifilter.proofs.FindLaws.{front-bytes}
+use Rattle.minifilter.proofs.BucketLaws.{fits1, length-frontBytes}
 use Rattle.machine.specs.Results.{Result, accepted, refused, andThen}
-use Rattle.machine.specs.Images.{lengthOf, bucketAt, put, frontAt, putFront, emptyImage}
+use Rattle.machine.specs.Images.{lengthOf, putFront, emptyImage}
 use Rattle.machine.specs.Bags.{addedAll}
 use Rattle.machine.specs.Machine.{Change, insertAt, membersAt}
 use Rattle.machine.specs.Merges.{insertAll, mergeFrom}
 use Rattle.machine.specs.Calls.{freshOf, written}
 use Rattle.machine.specs.Checks.{unless, unsoundFront, unsoundBack, early, checkSized}
-use Rattle.breadcrumb.specs.Answers.{refusal, doneOf, changeOf, Changes, Fills}
+use Rattle.breadcrumb.specs.Answers.{refusal, doneOf, Fills}
 use Rattle.breadcrumb.specs.declared.Refusal.{Refusal}
 use Rattle.breadcrumb.specs.declared.Refusal.the-variants.{WrongLength, LengthsDiffer, Unsound, Full, Absent, PastEnd, NoRoom, Early}
 use Rattle.breadcrumb.specs.declared.Done.{Done}
 use Rattle.breadcrumb.specs.declared.Done.the-variants as D
-use Rattle.breadcrumb.specs.declared.Changed.{Changed}
-use Rattle.breadcrumb.specs.declared.Changed.the-variants as C
-use Rattle.breadcrumb.specs.Steps.{inFront, FrontRead, Whole}
-use Rattle.breadcrumb.specs.Listings.{Listed, overflowIn, behindIn, membersIn, MembersRead}
-use Rattle.breadcrumb.specs.Passes.{AllRead, SizedAs, Checked, reached, served, bothInserted}
+use Rattle.breadcrumb.specs.Steps.{inFront, Whole}
+use Rattle.breadcrumb.specs.Listings.{Listed, overflowIn, behindIn, membersIn, BehindRead, MembersRead}
+use Rattle.breadcrumb.specs.Passes.{AllRead, SizedAs, Checked, reached, bothInserted}
 use Rattle.machine.proofs.BagLaws.{copies-addedAll, ascending-addedAll}
 use Rattle.machine.proofs.ImageLaws.{front-inside, sizeOf-some}
-use Rattle.breadcrumb.proofs.ListLaws.{addedAll-nil}
-use Rattle.machine.proofs.ImageLaws.{below-bucket}
-use Rattle.breadcrumb.proofs.ListingLaws.{behind-order, members-range}
-use Rattle.machine.proofs.Invariant.{Good, frontView, backView, part, over, total}
+use Rattle.breadcrumb.proofs.ListingLaws.{behind-few, behind-order, behind-room, length-members, members-range}
+use Rattle.machine.proofs.Invariant.{Good, frontView, backView, over, total}
 use Rattle.machine.proofs.Overflow.{copies-overs}
-use Rattle.machine.proofs.Members.{front-added}
-use Rattle.machine.proofs.Changes.{length-putFront, frontAt-putFront}
-use Rattle.machine.proofs.InsertLaws.{Inserted, took, stuck, insert-keeps}
 use Rattle.machine.proofs.CheckLaws.{check-good, good-checked}
+use Rattle.breadcrumb.proofs.WriteLaws.{put-put}
 use Rattle.breadcrumb.proofs.CheckSteps.{front-was-read, back-was-read}
 use Rattle.machine.proofs.MergeLaws.{More, InsertedAll, took-all, stuck-in, insertAll-keeps}
 
@@ -67,18 +56,11 @@ ascending-append (x ∷ xs) ys a b l =
     ])
     (ascending-append xs ys (ascending-tail x xs a) b (λ y z c d. l y z (omega (arith, copies-cons y x xs)) d))
 
--- one more in all, or in what they are put to
-addedAll-added : (z : ℕ) (zs ws : List ℕ) → T (ascending ws) → addedAll zs (added z ws) ≡ added z (addedAll zs ws)
-addedAll-added z zs ws a =
-    ascending-unique (addedAll zs (added z ws)) (added z (addedAll zs ws)) (ascending-addedAll zs (added z ws) (ascending-added z ws a))
-    (ascending-added z (addedAll zs ws) (ascending-addedAll zs ws a))
-    (λ y. omega (arith, copies-addedAll y zs (added z ws), copies-added y z ws, copies-added y z (addedAll zs ws), copies-addedAll y zs ws))
-
 none-there : (xs : List ℕ) → ((y : ℕ) → copies y xs ≡ 0) → xs ≡ []
 none-there [] n = refl
 none-there (x ∷ xs) n = absurd (omega (arith, n x, copies-cons x x xs, hit-same x))
 
-pub no-members : (xs : List ℕ) → length xs ≡ 0 → xs ≡ []
+no-members : (xs : List ℕ) → length xs ≡ 0 → xs ≡ []
 no-members [] e = refl
 no-members (x ∷ xs) e = absurd (omega arith)
 
@@ -87,23 +69,6 @@ pub part-listed : (from n : ℕ) (xs old new : List ℕ) → Listed xs old n new
 part-listed from n xs old new l h =
     rw (l .stands, drop-append-le from xs (drop n old) (omega (arith, l .many)))
     (take-at (drop from xs) (drop n old) (n - from) (rw (length-drop from xs, l .many)))
-
--- ---- buckets written twice, and with their own bytes
-
-put-put : (i : ℕ) (b d img : List ℕ) → length b ≡ 64 → 64 * i + 64 ≤ length img → put i d (put i b img) ≡ put i d img
-unfolding put
-put-put i b d img h l =
-    let head : length (take (64 * i) img) ≡ 64 * i = length-take-le (64 * i) img (omega arith) in
-    let past : drop (64 * i + 64) (take (64 * i) img ++ (b ++ drop (64 * i + 64) img)) ≡ drop (64 * i + 64) img =
-    ap (drop (64 * i + 64)) (sym (append-assoc (take (64 * i) img) b (drop (64 * i + 64) img)))
-    ∙ drop-at (take (64 * i) img ++ b) (drop (64 * i + 64) img) (64 * i + 64) (rw (length-append (take (64 * i) img) b) (omega arith)) in
-    rw (take-at (take (64 * i) img) (b ++ drop (64 * i + 64) img) (64 * i) head, past)
-
-pub put-same : (i : ℕ) (b img : List ℕ) → b ≡ bucketAt i img → put i b img ≡ img
-unfolding put bucketAt
-put-same i b img e =
-    rw e (ap (λ (l : List ℕ). take (64 * i) img ++ l) (ap (λ (l : List ℕ). take 64 (drop (64 * i) img) ++ l) (sym (drop-drop 64 (64 * i) img))
-    ∙ take-append-drop 64 (drop (64 * i) img)) ∙ take-append-drop (64 * i) img)
 
 -- ---- inserts one after the other
 
@@ -135,22 +100,7 @@ module _ (L : Layout) (fits : Fits64 L) (B f : ℕ) (h : f < fronts B) where
   pub front-twice : (xs ys img : List ℕ) → length img ≡ lengthOf B → FrontList L xs → putFront L f ys (putFront L f xs img) ≡ putFront L f ys img
   unfolding putFront
   front-twice xs ys img long list =
-      put-put f (frontBytes L xs) (frontBytes L ys) img (length-frontBytes L fits xs (list .room)) (rw long (front-inside B f h))
-
-  -- keys that all find a slot in front
-  pub front-filled : (zs ws img : List ℕ) → length img ≡ lengthOf B → FrontList L ws → frontAt L f img ≡ accepted ws → putFront L f ws img ≡ img
-      → Below (allKeys L) zs → length ws + length zs ≤ L .frontSlots → insertAll L B f zs img ≡ accepted (putFront L f (addedAll zs ws) img)
-  unfolding insertAll addedAll
-  front-filled [] ws img long list read same b r = rw same
-  front-filled (z ∷ zs) ws img long list read same b r =
-      let list2 : FrontList L (added z ws) = front-added L z ws list (b .0) (omega arith) in
-      let next : List ℕ = putFront L f (added z ws) img in
-      let one : insertAt L B f z img ≡ accepted (record { answer = 0; image = next }) =
-      unfold insertAt in rw (read, lt-ltb (length ws) (L .frontSlots) (omega arith)) in
-      rw one (front-filled zs (added z ws) next (length-putFront L fits B img long f (added z ws) h list2 ∙ long) list2
-      (frontAt-putFront L fits B img long f (added z ws) h list2) (front-twice (added z ws) (added z ws) img long list2) (b .1)
-      (rw (length-added z ws) (omega arith))
-      ∙ ap accepted (front-twice (added z ws) (addedAll zs (added z ws)) img long list2 ∙ rw (addedAll-added z zs ws (list .order))))
+      put-put f (frontBytes L ys) (frontBytes L xs) img (length-frontBytes L fits xs (list .room)) (rw long (front-inside B f h))
 
 -- ---- what a checked image gives
 
@@ -178,14 +128,26 @@ module _ (B : ℕ) (img : List ℕ) (bytes : (i : ℕ) → getD img i 0 < 256) w
         back = λ j h. back-was-read B img whole bytes j h (good .back j h);
       }
 
+-- the members of a front bucket that was read
+pub members-fit : (B f : ℕ) (img : List ℕ) → MembersRead B f img
+    → T (ascending (membersIn B f img)) × Below (allKeys layout1) (membersIn B f img) × (length (membersIn B f img) ≤ 72)
+unfolding membersIn
+members-fit B f img r = (
+  ascending-addedAll (inFront f img) (behindIn B f img) (behind-order B f img r),
+  members-range B f img r,
+  omega (arith, length-members B f img r, behind-room B f img r, r .front .list .room),
+)
+
 -- the members of a front bucket: those in front, and behind them those in the backyard
 module _ (B f : ℕ) (img : List ℕ) (good : Good layout1 B img) (all : AllRead B img) (h : f < fronts B) where
-  pub members-read : MembersRead B f img
-  members-read = record {
+  pub behind-read : BehindRead B f img
+  behind-read = record {
     within = record { whole = all .whole; front = h };
-    front = all .front f h;
-    behind = λ _. record { first = all .back (firstBucket f) (bucketOf-lt true B f h); second = all .back (secondBucket B f) (bucketOf-lt false B f h) };
+    both = record { first = all .back (firstBucket f) (bucketOf-lt true B f h); second = all .back (secondBucket B f) (bucketOf-lt false B f h) };
   }
+
+  pub members-read : MembersRead B f img
+  members-read = record { within = behind-read .within; front = all .front f h; behind = λ _. behind-read .both }
 
   view-front : frontView layout1 B f img ≡ inFront f img
   unfolding frontView
@@ -206,7 +168,7 @@ module _ (B f : ℕ) (img : List ℕ) (good : Good layout1 B img) (all : AllRead
           let t = good .turn f y h (omega (arith, copies-behind y)) .1 in
           omega (arith, largest-max x (inFront f img) (all .front f h .list .order) c, rw view-front at t)
 
-  pub members-parts : membersIn B f img ≡ inFront f img ++ behindIn B f img
+  members-parts : membersIn B f img ≡ inFront f img ++ behindIn B f img
   unfolding membersIn
   members-parts =
       let order = behind-order B f img members-read in
@@ -215,78 +177,21 @@ module _ (B f : ℕ) (img : List ℕ) (good : Good layout1 B img) (all : AllRead
       (ascending-append (inFront f img) (behindIn B f img) (all .front f h .list .order) order behind-after)
       (λ z. omega (arith, copies-addedAll z (inFront f img) (behindIn B f img), copies-append z (inFront f img) (behindIn B f img)))
 
-  pub behind-few : length (inFront f img) < 28 → behindIn B f img ≡ []
-  unfolding behindIn
-  behind-few l = rw (lt-ltb (length (inFront f img)) 28 l)
+  pub members-none : length (inFront f img) ≡ 0 → (membersIn B f img ≡ []) × (behindIn B f img ≡ [])
+  members-none e =
+      let few : behindIn B f img ≡ [] = behind-few B f img members-read (omega arith) in
+      (members-parts ∙ rw (no-members (inFront f img) e, few), few)
 
-  -- those behind are what is left of all
-  pub behind-rest : (n : ℕ) → length (inFront f img) ≡ n → drop n (membersIn B f img) ≡ behindIn B f img
-  behind-rest n e = rw members-parts (drop-at (inFront f img) (behindIn B f img) n e)
-
-  pub behind-range : Below (allKeys layout1) (behindIn B f img)
-  behind-range =
-      rw (behind-rest (length (inFront f img)) refl) at (below-drop (allKeys layout1) (length (inFront f img)) (membersIn B f img) (members-range B f img members-read))
-
-  -- those put in one by one: front, then behind
-  pub parts-inserted : (target : List ℕ) → insertAll layout1 B f (membersIn B f img) target
-      ≡ andThen (insertAll layout1 B f (inFront f img) target) (insertAll layout1 B f (behindIn B f img))
-  parts-inserted target = rw members-parts (insertAll-append layout1 B f (inFront f img) (behindIn B f img) target)
-
--- ---- "its 64 bytes serve as the merged front bucket"
-
-own-bytes : (f : ℕ) (img : List ℕ) → ((i : ℕ) → getD img i 0 < 256) → FrontRead f img → frontBytes layout1 (inFront f img) ≡ bucketAt f img
-own-bytes f img bytes r = front-bytes (bucketAt f img) (below-bucket f img bytes) (r .sound)
-
-module _ (B f : ℕ) (h : f < fronts B) (target : List ℕ) (bytes : (i : ℕ) → getD target i 0 < 256) (all : AllRead B target)
-    (nought : inFront f target ≡ []) where
-  pub front-served : (img : List ℕ) → ((i : ℕ) → getD img i 0 < 256) → FrontRead f img
-      → insertAll layout1 B f (inFront f img) target ≡ accepted (put f (bucketAt f img) target)
-  unfolding putFront
-  front-served img known r =
-      let mine = all .front f h in
-      let list : FrontList layout1 [] = rw nought at (mine .list) in
-      let same : putFront layout1 f [] target ≡ target = put-same f (frontBytes layout1 []) target (rw nought at (own-bytes f target bytes mine)) in
-      front-filled layout1 fits1 B f h (inFront f img) [] target (all .whole .long) list (rw nought at (mine .accepts)) same (r .list .range)
-      (omega (arith, r .list .room))
-      ∙ rw (addedAll-nil (inFront f img) (r .list .order), own-bytes f img known r)
-
-  -- where just one of the two front buckets has members, or neither
-  module _ (a b : List ℕ) (good-a : Good layout1 B a) (good-b : Good layout1 B b) (all-a : AllRead B a) (all-b : AllRead B b)
-      (known-a : (i : ℕ) → getD a i 0 < 256) (known-b : (i : ℕ) → getD b i 0 < 256)
-      (one : 0 < length (inFront f a) → length (inFront f b) ≡ 0) where
-    abbrev now : List ℕ
-    now = put f (served f a b) target
-
-    abbrev After : Type 0
-    After = (Good layout1 B target → Good layout1 B now)
-        × (bothInserted B f a b target ≡ andThen (insertAll layout1 B f (behindIn B f a) now) (insertAll layout1 B f (behindIn B f b)))
-
-    -- nothing in front, so nothing behind
-    nothing : (img : List ℕ) → Good layout1 B img → AllRead B img → length (inFront f img) ≡ 0 → (membersIn B f img ≡ []) × (behindIn B f img ≡ [])
-    nothing img good every e =
-        let few = behind-few B f img good every h (omega arith) in
-        (members-parts B f img good every h ∙ rw (no-members (inFront f img) e, few), few)
-
-    pub front-taken : After
-    unfolding bothInserted served insertAll
-    front-taken = go (eqb (length (inFront f a)) 0) refl
-      where
-        go : (t : Bool) → eqb (length (inFront f a)) 0 ≡ t
-            → (Good layout1 B target → Good layout1 B (put f (cond t (bucketAt f b) (bucketAt f a)) target))
-            × (andThen (insertAll layout1 B f (membersIn B f a) target) (insertAll layout1 B f (membersIn B f b))
-            ≡ andThen (insertAll layout1 B f (behindIn B f a) (put f (cond t (bucketAt f b) (bucketAt f a)) target)) (insertAll layout1 B f (behindIn B f b)))
-        go true e =
-            let n = nothing a good-a all-a (eqb-true (length (inFront f a)) 0 e) in
-            let r = all-b .front f h in (
-              λ good. insertAll-good layout1 fits1 B f h (inFront f b) target good (r .list .range) (front-served b known-b r) .0,
-              rw (n .0, n .1, parts-inserted B f b good-b all-b h target, front-served b known-b r),
-            )
-        go false e =
-            let n = nothing b good-b all-b (one (omega (arith, eqb-false (length (inFront f a)) 0 e))) in
-            let r = all-a .front f h in (
-              λ good. insertAll-good layout1 fits1 B f h (inFront f a) target good (r .list .range) (front-served a known-a r) .0,
-              rw (n .0, n .1, parts-inserted B f a good-a all-a h target, front-served a known-a r),
-            )
+  -- the first 28 are in front, the others behind
+  pub members-split : (take 28 (membersIn B f img) ≡ inFront f img) × (drop 28 (membersIn B f img) ≡ behindIn B f img)
+  members-split = rw members-parts (elim (decLe 28 (length (inFront f img))) [
+    | yes l ↦
+        let e : length (inFront f img) ≡ 28 = omega (arith, all .front f h .list .room) in
+        (take-at (inFront f img) (behindIn B f img) 28 e, drop-at (inFront f img) (behindIn B f img) 28 e)
+    | no m ↦
+        let l : length (inFront f img) ≤ 28 = omega arith in
+        rw (behind-few B f img members-read (omega arith), append-nil (inFront f img)) (take-all 28 (inFront f img) l, drop-of-length-le (inFront f img) l)
+  ])
 
 -- ---- from front bucket to front bucket
 
@@ -300,43 +205,6 @@ is-refused Absent = (5, 0, refl)
 is-refused PastEnd = (6, 0, refl)
 is-refused NoRoom = (7, 0, refl)
 is-refused (Early i) = (8, i, refl)
-
-below-at : (k i : ℕ) (xs : List ℕ) → Below k xs → i < length xs → getD xs i 0 < k
-below-at k i [] b l = absurd (omega arith)
-below-at k zero (x ∷ xs) b l = b .0
-below-at k (suc i) (x ∷ xs) b l = below-at k i xs (b .1) (omega arith)
-
--- one key of a list put into a good target: it took it, or was full
-module _ (B f i : ℕ) (keys img : List ℕ) (h : f < fronts B) (good : Good layout1 B img) (range : Below (allKeys layout1) keys) (l : i < length keys) where
-  pub key-low : getD keys i 0 < allKeys layout1
-  key-low = below-at (allKeys layout1) i keys range l
-
-  module _ {r : Changed} {now : List ℕ} (said : Changes (insertAt layout1 B f (getD keys i 0) img) img r now) where
-    pub key-took : {n : ℕ} → r ≡ C.Accepted n → Good layout1 B now × (insertAll layout1 B f (drop i keys) img ≡ insertAll layout1 B f (drop (i + 1) keys) now)
-    unfolding insertAll
-    key-took {n} e = go (insert-keeps layout1 fits1 B f (getD keys i 0) img good h key-low)
-      where
-        go : Inserted layout1 B f (getD keys i 0) img
-            → Good layout1 B now × (insertAll layout1 B f (drop i keys) img ≡ insertAll layout1 B f (drop (i + 1) keys) now)
-        go (took a end q full g m) =
-            let s : now ≡ end = rw q at (said .bytes) in
-            (rw s g, rw (drop-cons keys i 0 l, q, add-one i, s))
-        go (stuck q full) =
-            let p : changeOf r ≡ refused 4 0 = rw q at (said .answer) in
-            let z : _≡_ {A = Result ℕ} (accepted n) (refused 4 0) = rw e at p in
-            let y : _≡_ {A = ℕ} 0 1 = cc in absurd (omega arith)
-
-    pub key-full : {why : Refusal} → r ≡ C.Refused why → insertAll layout1 B f (drop i keys) img ≡ refused 4 0
-    unfolding insertAll
-    key-full {why} e = go (insert-keeps layout1 fits1 B f (getD keys i 0) img good h key-low)
-      where
-        go : Inserted layout1 B f (getD keys i 0) img → insertAll layout1 B f (drop i keys) img ≡ refused 4 0
-        go (took a end q full g m) =
-            let p : changeOf r ≡ accepted a = rw q at (said .answer) in
-            let w = is-refused {A = ℕ} why in
-            let z : _≡_ {A = Result ℕ} (refused (w .0) (w .1)) (accepted a) = sym (w .2) ∙ rw e at p in
-            let y : _≡_ {A = ℕ} 0 1 = cc in absurd (omega arith)
-        go (stuck q full) = rw (drop-cons keys i 0 l, q)
 
 pub reached-all : {R : Result (List ℕ)} (r : Bool) (t : List ℕ) → reached r t ≡ R → r ≡ true → R ≡ accepted t
 reached-all r t e p = rw (sym e, p)

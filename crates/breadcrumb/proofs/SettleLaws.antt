@@ -30,7 +30,7 @@ copies-take z (suc k) (x ∷ xs) c = elim (ℕ-discrete z x) [
   | no n ↦ omega (arith, copies-cons z x xs, copies-take z k xs (omega (arith, copies-cons z x (take k xs), hit-other z x n)))
 ]
 
-ascending-take : (k : ℕ) (xs : List ℕ) → T (ascending xs) → T (ascending (take k xs))
+pub ascending-take : (k : ℕ) (xs : List ℕ) → T (ascending xs) → T (ascending (take k xs))
 unfolding ascending
 ascending-take zero xs a = tt
 ascending-take (suc k) [] a = tt

@@ -1,14 +1,13 @@
 -- Keys put into a front bucket one after the other: what stays in front and what goes behind.
 -- Main results: `inserts-spill`, by which inserts are one front write and then pushes; `stays-append`, `goes-append` and `pushAll-append`;
--- `stays-ascending` and `goes-ascending`; `stays-list`, `goes-range` and `length-spilled`.
+-- `stays-ascending` and `goes-ascending`; `stays-list` and `goes-range`.
 use mathlib.Core.Path.{_≡_, refl, sym, _∙_, ap}
 use Prim.Native.Nat.{ℕ, _+_, _*_, _-_, _≤_, _<_}
 use mathlib.Core.Bool.{Bool, true, false, _&&_, true≢false}
 use mathlib.Core.List.{List, [], _∷_, _++_, append-assoc, append-nil}
-use mathlib.Core.Option.{Option, none, some}
 use native.Mathlib.Omega.{arith}
 use native.Mathlib.Decide.{decLe, ℕ-discrete}
-use lib.ListN.{length, take, drop, getD, length-append, length-drop, take-append-drop, drop-of-length-le}
+use lib.ListN.{length, take, drop, length-append, length-drop, take-append-drop, drop-of-length-le}
 use lib.Seq.{take-at, drop-at, take-all, append-snoc, length-take-le}
 use lib.Dec.{T, eqb, ltb}
 use borrow.Author.Tests.{lt-ltb, le-ltb, ltb-true, ltb-false, eq-eqb}
@@ -17,20 +16,20 @@ use Rattle.multiset.proofs.MultisetLaws.{hit, hit-same, hit-other, equal-of-hit
 use Rattle.crumbmap.specs.Layouts.{Layout, keys, fronts, backyards}
 use Rattle.crumbmap.specs.CrumbMap.{bucketOf, crumbOf}
 use Rattle.crumbmap.proofs.CrumbMapLaws.{bucketOf-lt}
-use Rattle.minifilter.specs.Buckets.{Fits64, frontMembers, frontBytes, backBytes, FrontList, BackList}
-use Rattle.minifilter.proofs.BucketLaws.{frontBytes-frontMembers, length-frontBytes, length-backBytes}
-use Rattle.machine.specs.Results.{Result, accepted, refused, andThen, orUnsound}
-use Rattle.machine.specs.Images.{lengthOf, bucketAt, put, frontAt, backAt, putFront, putBack}
+use Rattle.minifilter.specs.Buckets.{Fits64, frontBytes, backBytes, FrontList, BackList}
+use Rattle.minifilter.proofs.BucketLaws.{length-frontBytes, length-backBytes}
+use Rattle.machine.specs.Results.{Result, accepted, refused, andThen}
+use Rattle.machine.specs.Images.{lengthOf, put, frontAt, backAt, putFront, putBack}
 use Rattle.machine.specs.Machine.{Change, insertAt}
 use Rattle.machine.specs.Merges.{insertAll}
 use Rattle.breadcrumb.specs.Spills.{stays, goes, pushAt, pushAll}
-use Rattle.machine.proofs.ImageLaws.{length-bucketAt, below-bucket, front-inside, back-inside}
+use Rattle.machine.proofs.ImageLaws.{back-inside}
 use Rattle.machine.proofs.Invariant.{Good, frontView}
 use Rattle.machine.proofs.Overflow.{held, read-held, held-list}
 use Rattle.machine.proofs.Members.{largest-le, cond-choice, front-added, back-added}
 use Rattle.machine.proofs.Changes.{good-length, length-putFront, frontAt-putFront, backAt-putFront, frontAt-putBack}
 use Rattle.machine.proofs.InsertLaws.{Inserted, took, stuck, insert-keeps}
-use Rattle.breadcrumb.proofs.MergeSteps.{ascending-append, put-same, front-twice}
+use Rattle.breadcrumb.proofs.MergeSteps.{ascending-append, front-twice}
 
 -- ---- what stays and what goes, key by key
 
@@ -98,7 +97,7 @@ ascending-one : (x : ℕ) → T (ascending (x ∷ []))
 unfolding ascending atLeast
 ascending-one x = tt
 
-pub added-last : (x : ℕ) (ws : List ℕ) → T (ascending ws) → ((z : ℕ) → 0 < copies z ws → z ≤ x) → added x ws ≡ ws ++ (x ∷ [])
+added-last : (x : ℕ) (ws : List ℕ) → T (ascending ws) → ((z : ℕ) → 0 < copies z ws → z ≤ x) → added x ws ≡ ws ++ (x ∷ [])
 added-last x ws a l =
     ascending-unique (added x ws) (ws ++ (x ∷ [])) (ascending-added x ws a)
     (ascending-append ws (x ∷ []) a (ascending-one x) (λ z y c d. omega (arith, l z c, equal-of-hit y x (omega (arith, copies-one y x)))))
@@ -154,7 +153,7 @@ module _ (n : ℕ) where
 
 -- ---- what stays can stand in front
 
-pub length-rest : (x : ℕ) (ws : List ℕ) → length (removed (largest (added x ws)) (added x ws)) ≡ length ws
+length-rest : (x : ℕ) (ws : List ℕ) → length (removed (largest (added x ws)) (added x ws)) ≡ length ws
 length-rest x ws =
     omega (arith, length-added x ws, length-removed (largest (added x ws)) (added x ws) (copies-largest (added x ws) (omega (arith, length-added x ws))))
 
@@ -192,18 +191,6 @@ module _ (L : Layout) where
         let l : length ws < L .frontSlots = omega arith in
         rw (goes-room (L .frontSlots) x xs ws l) (goes-range xs (added x ws) (front-added L x ws list (b .0) l) (b .1))
   ]
-
--- all stay or go
-pub length-spilled : (n : ℕ) (xs ws : List ℕ) → length (stays n xs ws) + length (goes n xs ws) ≡ length ws + length xs
-unfolding stays goes
-length-spilled n [] ws = omega arith
-length-spilled n (x ∷ xs) ws = elim (decLe n (length ws)) [
-  | yes l ↦ rw (stays-full n x xs ws l, goes-full n x xs ws l)
-      (omega (arith, length-spilled n xs (removed (largest (added x ws)) (added x ws)), length-rest x ws))
-  | no m ↦
-      let l : length ws < n = omega arith in
-      rw (stays-room n x xs ws l, goes-room n x xs ws l) (omega (arith, length-spilled n xs (added x ws), length-added x ws))
-]
 
 -- ---- two buckets written in either order
 
@@ -300,7 +287,7 @@ module _ (L : Layout) (B f : ℕ) where
 
 -- ---- inserts as one front write and pushes
 
-pub same-answer : {A : Type 0} {a b : A} → accepted a ≡ accepted b → a ≡ b
+same-answer : {A : Type 0} {a b : A} → accepted a ≡ accepted b → a ≡ b
 same-answer e = cc
 
 never : {A : Type 0} {a : A} {n i : ℕ} → accepted a ≡ refused n i → ⊥
@@ -319,20 +306,20 @@ module _ (L : Layout) (fits : Fits64 L) (B f : ℕ) (h : f < fronts B) where
       (rw long (back-inside B j l))
 
   module _ (img : List ℕ) (good : Good L B img) where
-    abbrev pub ys : Bool → List ℕ
+    abbrev ys : Bool → List ℕ
     ys = held L B f img
 
-    abbrev pub bothFull : Bool
+    abbrev bothFull : Bool
     bothFull = eqb (length (ys true)) (L .backSlots) && eqb (length (ys false)) (L .backSlots)
 
     long : length img ≡ lengthOf B
     long = good-length L B img good
 
-    pub read-back : (t : Bool) → backAt L B (bucketOf t B f) img ≡ accepted (ys t)
+    read-back : (t : Bool) → backAt L B (bucketOf t B f) img ≡ accepted (ys t)
     read-back = read-held L B f img good h
 
     -- a slot is left in the bucket that is chosen
-    pub chosen : (t : Bool) → bothFull ≡ false → ltb (length (ys true)) (length (ys false)) ≡ t → length (ys t) < L .backSlots
+    chosen : (t : Bool) → bothFull ≡ false → ltb (length (ys true)) (length (ys false)) ≡ t → length (ys t) < L .backSlots
     chosen true q e = omega (arith, ltb-true (length (ys true)) (length (ys false)) e, held-list L B f img good h false .room)
     chosen false q e =
         let l : length (ys false) ≤ length (ys true) = ltb-false (length (ys true)) (length (ys false)) e in
@@ -455,17 +442,6 @@ module _ (L : Layout) (fits : Fits64 L) (B f : ℕ) (h : f < fronts B) where
               push-on most (stays (L .frontSlots) xs kept) r t q e,
             )
             (ih ∙ ap (pushAll L B f (goes (L .frontSlots) xs kept)) (next-front (stays (L .frontSlots) xs kept) r))
-
-  -- a front bucket of bytes, written with its own members
-  pub front-own : (img ws : List ℕ) → length img ≡ lengthOf B → ((i : ℕ) → getD img i 0 < 256) → frontAt L f img ≡ accepted ws → putFront L f ws img ≡ img
-  unfolding frontAt putFront
-  front-own img ws size bytes read = put-same f (frontBytes L ws) img (go (frontMembers L (bucketAt f img)) refl read)
-    where
-      go : (o : Option (List ℕ)) → frontMembers L (bucketAt f img) ≡ o → orUnsound f o ≡ accepted ws → frontBytes L ws ≡ bucketAt f img
-      go none e r = absurd (never (sym r))
-      go (some zs) e r =
-          let s : zs ≡ ws = same-answer r in
-          frontBytes-frontMembers L fits (bucketAt f img) ws (below-bucket f img bytes) (length-bucketAt f img (rw size (front-inside B f h))) (e ∙ ap some s)
 
   -- where the front bucket's bytes are those of its members
   pub inserts-spill : (xs ws img : List ℕ) → Good L B img → frontAt L f img ≡ accepted ws → putFront L f ws img ≡ img → Below (keys L) xs

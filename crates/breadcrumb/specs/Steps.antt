@@ -199,47 +199,49 @@ inBoth B f img = addedAll (inFirst B f img) (inSecond B f img)
 abbrev pub firstly : ℕ → ℕ → ℕ → List ℕ → Bool
 firstly B f v img = fromFirst v (inFirst B f img) (inSecond B f img) (length (inBack B (firstBucket f) img)) (length (inBack B (secondBucket B f) img))
 
--- v leaves the backyard bucket of choice t
-pub record Leaves (t : Bool) (B f v : ℕ) (img : List ℕ) : Type 0 where
+-- v leaves slot i of the backyard bucket of choice t
+pub record Leaves (t : Bool) (B f v i : ℕ) (img : List ℕ) : Type 0 where
   pub choice : firstly B f v img ≡ t
   pub there : 0 < copies (v * 16 + crumbOf t f) (inBack B (bucketOf t B f) img)
+  pub slot : i ≡ below (v * 16 + crumbOf t f) (inBack B (bucketOf t B f) img)
   pub key : v < keys layout1
 
 -- the smallest of First(f) and Second(f)
-pub record Least (t : Bool) (B f v : ℕ) (img : List ℕ) : Type 0 where
-  pub leaves : Leaves t B f v img
+pub record Least (t : Bool) (B f v i : ℕ) (img : List ℕ) : Type 0 where
+  pub leaves : Leaves t B f v i img
   pub rest : List ℕ
   pub head : inBoth B f img ≡ v ∷ rest
 
 abbrev pub LeastSays : ℕ → ℕ → List ℕ → Leaving → Type 0
-LeastSays B f img (W.First v) = Least true B f v img
-LeastSays B f img (W.Second v) = Least false B f v img
+LeastSays B f img (W.First v i) = Least true B f v i img
+LeastSays B f img (W.Second v i) = Least false B f v i img
 LeastSays B f img W.Nothing = inBoth B f img ≡ []
 
 -- a copy of x in First(f) or Second(f)
-pub record Copy (t : Bool) (B f x : ℕ) (img : List ℕ) (v : ℕ) : Type 0 where
+pub record Copy (t : Bool) (B f x : ℕ) (img : List ℕ) (v i : ℕ) : Type 0 where
   pub same : v ≡ x
-  pub leaves : Leaves t B f x img
+  pub leaves : Leaves t B f x i img
   pub there : has x (inBoth B f img) ≡ true
 
 abbrev pub CopySays : ℕ → ℕ → ℕ → List ℕ → Leaving → Type 0
-CopySays B f x img (W.First v) = Copy true B f x img v
-CopySays B f x img (W.Second v) = Copy false B f x img v
+CopySays B f x img (W.First v i) = Copy true B f x img v i
+CopySays B f x img (W.Second v i) = Copy false B f x img v i
 CopySays B f x img W.Nothing = has x (inBoth B f img) ≡ false
 
--- a copy of v stands in backyard bucket and crumb w
-pub record Stands (B : ℕ) (w : Overflow) (v : ℕ) (img : List ℕ) : Type 0 where
+-- a copy of v stands in backyard bucket and crumb w, the lowest at slot i
+pub record Stands (B : ℕ) (w : Overflow) (i v : ℕ) (img : List ℕ) : Type 0 where
   pub back : BackRead B (w .bucket .0) img
   pub there : 0 < copies (v * 16 + w .crumb) (inBack B (w .bucket .0) img)
+  pub slot : i ≡ below (v * 16 + w .crumb) (inBack B (w .bucket .0) img)
   pub crumb : w .crumb < 16
   pub key : v < keys layout1
 
 -- and a copy of the key at a slot in front, whose room v is to take
-pub record Refills (t : Target) (w : Overflow) (v at : ℕ) (img : List ℕ) : Type 0 where
+pub record Refills (t : Target) (at : ℕ) (w : Overflow) (i v : ℕ) (img : List ℕ) : Type 0 where
   pub placed : Placed t img
   pub front : FrontFull (t .front .0) img
   pub here : At (t .key) at (inFront (t .front .0) img)
-  pub behind : Stands (t .size) w v img
+  pub behind : Stands (t .size) w i v img
 
 -- the image after v left backyard bucket and crumb w
 unfoldable pub takenOut : ℕ → ℕ → Overflow → List ℕ → List ℕ

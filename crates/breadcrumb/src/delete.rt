@@ -15,7 +15,6 @@ use crate::image::copies_front_at;
 use crate::image::first_carrying_at;
 use crate::image::largest_front_at;
 use crate::image::locate;
-use crate::image::rank_back_at;
 use crate::image::rank_front_at;
 use crate::image::read_front_at;
 use crate::image::remove_back_at;
@@ -74,18 +73,20 @@ fn refill(image: &mut [u8], target: Target, slot: usize) -> Changed
     match read_behind(image, size, front, target.key) {
         Behind::Unsound(table) => Changed::Refused(Refusal::Unsound(table)),
         Behind::Members(a, b) => match least_behind(image, size, front, a.members, b.members) {
-            Leaving::First(key) => Changed::Accepted(refill_from(
+            Leaving::First(key, from) => Changed::Accepted(refill_from(
                 image,
                 target,
                 slot,
                 first_of(front, size),
+                from,
                 key,
             )),
-            Leaving::Second(key) => Changed::Accepted(refill_from(
+            Leaving::Second(key, from) => Changed::Accepted(refill_from(
                 image,
                 target,
                 slot,
                 second_of(front, size),
+                from,
                 key,
             )),
             Leaving::Nothing => {
@@ -96,15 +97,22 @@ fn refill(image: &mut [u8], target: Target, slot: usize) -> Changed
     }
 }
 
-// A member of a backyard bucket takes the room of the copy that leaves in front.
-fn refill_from(image: &mut [u8], target: Target, at: usize, way: Overflow, key: u32) -> usize
-    requires { ⌜ Refills target way key at (now image) ⌝ }
+// A member of a backyard bucket, from its slot there, takes the room of the copy that leaves in front.
+fn refill_from(
+    image: &mut [u8],
+    target: Target,
+    at: usize,
+    way: Overflow,
+    from: usize,
+    key: u32,
+) -> usize
+    requires { ⌜ Refills target at way from key (now image) ⌝ }
     ensures { λ r. ⌜ (r ≡ 1 + way .bucket .0)
         × (now (image .exit) ≡ refilled (target .size) (target .front .0) (target .key) key way (now (image .entry))) ⌝ }
 {
     let slot = rank_without(image, target.front, target.key, key);
     swap_front_at(image, target.front, at, target.key, slot, key);
-    take_out(image, target.size, way, key)
+    take_out(image, target.size, way, from, key)
 }
 
 // How many members of a front bucket that holds 28 are below a key once a copy of another has left it; 27 where the key exceeds them all.
@@ -122,7 +130,7 @@ fn rank_without(image: &[u8], front: Front, gone: u32, key: u32) -> usize
     below
 }
 
-// The smallest member of First(f) and Second(f). "A value standing in both is taken from First if n0 > n1, else from Second."
+// The smallest member of First(f) and Second(f), and its slot. "A value standing in both is taken from First if n0 > n1, else from Second."
 fn least_behind(image: &[u8], size: usize, front: Front, n0: usize, n1: usize) -> Leaving
     requires { ⌜ FrontIn size (front .0) (now image) × BothHold size (front .0) (now image) n0 n1 ⌝ }
     ensures { λ r. ⌜ LeastSays size (front .0) (now (image .entry)) r ⌝ }
@@ -131,25 +139,25 @@ fn least_behind(image: &[u8], size: usize, front: Front, n0: usize, n1: usize) -
     let second = second_of(front, size);
     let in_first = first_carrying_at(image, size, first.bucket, first.crumb);
     let in_second = first_carrying_at(image, size, second.bucket, second.crumb);
-    let Carried::Key(a) = in_first else {
-        let Carried::Key(b) = in_second else {
+    let Carried::Key(a, i) = in_first else {
+        let Carried::Key(b, j) = in_second else {
             return Leaving::Nothing;
         };
-        return Leaving::Second(b);
+        return Leaving::Second(b, j);
     };
-    let Carried::Key(b) = in_second else {
-        return Leaving::First(a);
+    let Carried::Key(b, j) = in_second else {
+        return Leaving::First(a, i);
     };
     if a < b {
-        return Leaving::First(a);
+        return Leaving::First(a, i);
     }
     if b < a {
-        return Leaving::Second(b);
+        return Leaving::Second(b, j);
     }
     if n1 < n0 {
-        Leaving::First(a)
+        Leaving::First(a, i)
     } else {
-        Leaving::Second(b)
+        Leaving::Second(b, j)
     }
 }
 
@@ -177,16 +185,18 @@ fn delete_behind(image: &mut [u8], target: Target) -> Changed
     match read_behind(image, size, front, target.key) {
         Behind::Unsound(table) => Changed::Refused(Refusal::Unsound(table)),
         Behind::Members(a, b) => match copy_behind(image, target, a, b) {
-            Leaving::First(key) => Changed::Accepted(take_out(
+            Leaving::First(key, slot) => Changed::Accepted(take_out(
                 image,
                 size,
                 first_of(front, size),
+                slot,
                 key,
             )),
-            Leaving::Second(key) => Changed::Accepted(take_out(
+            Leaving::Second(key, slot) => Changed::Accepted(take_out(
                 image,
                 size,
                 second_of(front, size),
+                slot,
                 key,
             )),
             Leaving::Nothing => Changed::Refused(Refusal::Absent),
@@ -209,26 +219,25 @@ fn copy_behind(image: &[u8], target: Target, a: Ranked, b: Ranked) -> Leaving
         if in_second == 0 {
             return Leaving::Nothing;
         }
-        return Leaving::Second(key);
+        return Leaving::Second(key, b.below);
     }
     if in_second == 0 {
-        return Leaving::First(key);
+        return Leaving::First(key, a.below);
     }
     if b.members < a.members {
-        Leaving::First(key)
+        Leaving::First(key, a.below)
     } else {
-        Leaving::Second(key)
+        Leaving::Second(key, b.below)
     }
 }
 
-// One copy of a key leaves a backyard bucket, with the crumb that it carries there.
-fn take_out(image: &mut [u8], size: usize, way: Overflow, key: u32) -> usize
-    requires { ⌜ Stands size way key (now image) ⌝ }
+// One copy of a key leaves its slot in a backyard bucket, with the crumb that it carries there.
+fn take_out(image: &mut [u8], size: usize, way: Overflow, slot: usize, key: u32) -> usize
+    requires { ⌜ Stands size way slot key (now image) ⌝ }
     ensures { λ r. ⌜ (r ≡ 1 + way .bucket .0) × (now (image .exit) ≡ takenOut size key way (now (image .entry))) ⌝ }
 {
     let bucket = way.bucket;
     let member = key * 16 + way.crumb;
-    let slot = rank_back_at(image, size, bucket, member);
     remove_back_at(image, size, bucket, slot, member);
     1 + bucket.0
 }

@@ -26,7 +26,7 @@ pub fn fresh(image: &mut [u8]) -> Done
 }
 
 // Every bucket in one pass. An empty backyard bucket has the bytes of an empty front bucket.
-fn clear_all(image: &mut [u8], buckets: usize)
+pub(crate) fn clear_all(image: &mut [u8], buckets: usize)
     requires { ⌜ length (now image) ≡ 64 * buckets ⌝ }
     ensures { λ _. ⌜ now (image .exit) ≡ repeated buckets (frontBytes layout1 []) ⌝ }
 {

@@ -26,13 +26,14 @@ use minifilter::read::read_back;
 use minifilter::read::read_front;
 use minifilter::word::occupancy;
 use minifilter::word::word_of;
+use minifilter::write::write_front;
 ghost use mathlib.Core.Path.{_≡_};
 ghost use Prim.Native.Nat.{_+_, _*_, _<_, _≤_};
 ghost use mathlib.Core.List.{[]};
 ghost use lib.ListN.{length};
 ghost use Rattle.multiset.specs.Multisets.{added, removed, below, copies, largest};
 ghost use Rattle.crumbmap.specs.Layouts.{layout1, keys, fronts, backyards};
-ghost use Rattle.minifilter.specs.Buckets.{frontBytes, carrying};
+ghost use Rattle.minifilter.specs.Buckets.{frontBytes, carrying, FrontList};
 ghost use Rattle.minifilter.specs.Readings.{firstOf};
 ghost use Rattle.machine.specs.Images.{sizeOf, put, putFront, putBack};
 ghost use Rattle.breadcrumb.specs.Steps.{sizing, LocatedIn, inFront, inBack, BackIn, FrontRead, BackRead, At, FrontSays, BackSays};
@@ -160,10 +161,10 @@ pub(crate) fn copies_back_at(
     copies_back(&image[at..end], slot, member)
 }
 
-// The lowest key that carries a crumb in a sound backyard bucket.
+// The lowest key that carries a crumb in a sound backyard bucket, and its slot.
 pub(crate) fn first_carrying_at(image: &[u8], size: usize, bucket: Backyard, crumb: u32) -> Carried
     requires { ⌜ BackRead size (bucket .0) (now image) × (crumb < 16) ⌝ }
-    ensures { λ r. ⌜ r ≡ firstOf (carrying crumb (inBack size (bucket .0) (now (image .entry)))) ⌝ }
+    ensures { λ r. ⌜ r ≡ firstOf crumb (inBack size (bucket .0) (now (image .entry))) (carrying crumb (inBack size (bucket .0) (now (image .entry)))) ⌝ }
 {
     let at = 64 * table_of(size, bucket);
     let end = at + 64;
@@ -251,6 +252,17 @@ pub(crate) fn clear_at(image: &mut [u8], table: usize)
     let at = 64 * table;
     let end = at + 64;
     clear(&mut image[at..end]);
+}
+
+// A front bucket takes keys, whatever its bytes were.
+pub(crate) fn fill_front_at(image: &mut [u8], front: Front, keys: &[u32])
+    requires { ⌜ (64 * front .0 + 64 ≤ length (now image)) × FrontList layout1 (now keys) ⌝ }
+    ensures { λ _. ⌜ now (image .exit) ≡ putFront layout1 (front .0) (now (keys .entry)) (now (image .entry)) ⌝ }
+{
+    let f = front.0;
+    let at = 64 * f;
+    let end = at + 64;
+    write_front(&mut image[at..end], keys);
 }
 
 // How many members a sound front bucket holds.

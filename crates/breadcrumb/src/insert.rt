@@ -36,7 +36,7 @@ pub fn insert(image: &mut [u8], hash: u64) -> Changed
 }
 
 // The front bucket has a free slot, or its overflow has to go behind it.
-pub(crate) fn insert_at(image: &mut [u8], target: Target) -> Changed
+fn insert_at(image: &mut [u8], target: Target) -> Changed
     requires { ⌜ Placed target (now image) ⌝ }
     ensures { λ r. ⌜ InsertsAt target (now (image .entry)) r (now (image .exit)) ⌝ }
 {

@@ -117,10 +117,10 @@ pub(crate) enum Sought {
     Unsound(usize),
 }
 
-// The key of a member that leaves the backyard, from First(f) or from Second(f), or that none does.
+// A member that leaves the backyard, from First(f) or from Second(f): its key, and its slot in that backyard bucket; or that none does.
 pub(crate) enum Leaving {
-    First(u32),
-    Second(u32),
+    First(u32, usize),
+    Second(u32, usize),
     Nothing,
 }
 

@@ -1,33 +1,44 @@
 // Merge: "the target becomes fresh, then for f = 0 up inserts the first's members of f ascending, then the second's".
-// "Where just one of the two front buckets has members, its 64 bytes serve as the merged front bucket."
+// "Where just one of the two front buckets has members, its 64 bytes serve as the merged front bucket." Where both have, what those
+// inserts leave in front is written once, and what they send behind goes there in their order.
 
-use crate::Changed;
 use crate::Done;
 use crate::Refusal;
 use crate::Size;
-use crate::Target;
 use crate::check::check_sized;
+use crate::fresh::clear_all;
 use crate::fresh::fresh;
+use crate::image::count_back_at;
 use crate::image::count_front_at;
+use crate::image::fill_front_at;
+use crate::image::insert_back_at;
+use crate::image::rank_back_at;
 use crate::image::size_of;
 use crate::image::whichever;
 use crate::image::write_front_at;
-use crate::insert::insert_at;
 use crate::listing::list_members;
+use crate::lists::merge_into;
+use crate::settle::settle;
 use crumbmap::Front;
+use crumbmap::Overflow;
+use crumbmap::map::first_of;
+use crumbmap::map::second_of;
 ghost use mathlib.Core.Path.{_≡_};
-ghost use Prim.Native.Nat.{_<_, _≤_};
+ghost use Prim.Native.Nat.{_+_, _*_, _<_, _≤_};
 ghost use mathlib.Core.List.{[]};
-ghost use lib.ListN.{length, drop};
-ghost use Rattle.multiset.specs.Multisets.{Below};
+ghost use lib.ListN.{length, take};
+ghost use lib.Dec.{T};
+ghost use Rattle.multiset.specs.Multisets.{added, ascending, Below};
 ghost use Rattle.crumbmap.specs.Layouts.{layout1, keys as allKeys, fronts};
-ghost use Rattle.machine.specs.Results.{refused};
-ghost use Rattle.machine.specs.Images.{emptyImage};
+ghost use Rattle.minifilter.specs.Buckets.{FrontList};
+ghost use Rattle.machine.specs.Results.{refused, andThen};
+ghost use Rattle.machine.specs.Images.{emptyImage, putFront, putBack};
 ghost use Rattle.machine.specs.Merges.{insertAll, mergeFrom, mergeSized};
 ghost use Rattle.breadcrumb.specs.Answers.{Fills, Merges};
-ghost use Rattle.breadcrumb.specs.Steps.{inFront};
-ghost use Rattle.breadcrumb.specs.Listings.{behindIn, membersIn};
+ghost use Rattle.breadcrumb.specs.Steps.{inFront, inBack, BackRead};
+ghost use Rattle.breadcrumb.specs.Listings.{behindIn, BehindRead};
 ghost use Rattle.breadcrumb.specs.Passes.{SizedAs, Checked, reached, bothInserted};
+ghost use Rattle.breadcrumb.specs.Spills.{stays, goes, pushAt, pushAll};
 
 // The members of two images into a third.
 pub fn merge<'a>(first: &'a [u8], second: &'a [u8], target: &mut [u8]) -> Done
@@ -75,14 +86,15 @@ fn merge_checked<'a>(first: &'a [u8], second: &'a [u8], size: usize, target: &mu
     if merge_fronts(first, second, size, target) {
         return Done::Accepted;
     }
-    give_up(target)
+    give_up(target, size)
 }
 
 // "4; kept, but a merge's target is fresh."
-fn give_up(target: &mut [u8]) -> Done
+fn give_up(target: &mut [u8], size: usize) -> Done
+    requires { ⌜ SizedAs size (now target) ⌝ }
     ensures { λ r. ⌜ Fills (refused 4 0) (now (target .entry)) r (now (target .exit)) ⌝ }
 {
-    fresh(target);
+    clear_all(target, 9 * size + 7);
     Done::Refused(Refusal::Full)
 }
 
@@ -122,10 +134,7 @@ fn merge_front<'a>(
     if count_front_at(second, front) == 0 {
         return take_over(first, second, size, front, target);
     }
-    if add_from(first, size, front, 0, target) {
-        return add_from(second, size, front, 0, target);
-    }
-    false
+    merge_both(first, second, size, front, target)
 }
 
 // The same where at most one of the two front buckets has members: its bytes serve.
@@ -149,42 +158,126 @@ fn take_over<'a>(
     false
 }
 
-// Those behind a source's front bucket.
+// Those behind a source's front bucket, behind the target's.
 fn add_behind(source: &[u8], size: usize, front: Front, target: &mut [u8]) -> bool
-    requires { ⌜ Checked size (now source) × Checked size (now target) × (front .0 < fronts size) ⌝ }
-    ensures { λ r. ⌜ reached r (now (target .exit))
-        ≡ insertAll layout1 size (front .0) (behindIn size (front .0) (now (source .entry))) (now (target .entry)) ⌝ }
+    requires { ⌜ Checked size (now source) × BehindRead size (front .0) (now target) ⌝ }
+    ensures { λ r. ⌜ (reached r (now (target .exit))
+        ≡ pushAll layout1 size (front .0) (behindIn size (front .0) (now (source .entry))) (now (target .entry)))
+        × BehindRead size (front .0) (now (target .exit)) ⌝ }
 {
     if count_front_at(source, front) < 28 {
         return true;
     }
-    add_from(source, size, front, 28, target)
-}
-
-// A source's members of a front bucket, ascending, from the one at `from` on.
-fn add_from(source: &[u8], size: usize, front: Front, from: usize, target: &mut [u8]) -> bool
-    requires { ⌜ Checked size (now source) × Checked size (now target) × (front .0 < fronts size)
-        × (from ≤ length (inFront (front .0) (now source))) ⌝ }
-    ensures { λ r. ⌜ reached r (now (target .exit))
-        ≡ insertAll layout1 size (front .0) (drop from (membersIn size (front .0) (now (source .entry)))) (now (target .entry)) ⌝ }
-{
     let mut keys = [0u32; 72];
     let n = list_members(source, size, front, &mut keys);
-    insert_all(&keys[from..n], size, front, target)
+    push_all(&keys[28..n], size, front, target)
 }
 
-// Keys of a front bucket, one after the other, until the target is full.
-fn insert_all(keys: &[u32], size: usize, front: Front, target: &mut [u8]) -> bool
-    requires { ⌜ Checked size (now target) × (front .0 < fronts size) × Below (allKeys layout1) (now keys) ⌝ }
-    ensures { λ r. ⌜ reached r (now (target .exit)) ≡ insertAll layout1 size (front .0) (now (keys .entry)) (now (target .entry)) ⌝ }
+// The same where both have members: the two lists of them are put in.
+fn merge_both<'a>(
+    first: &'a [u8],
+    second: &'a [u8],
+    size: usize,
+    front: Front,
+    target: &mut [u8],
+) -> bool
+    requires { ⌜ Checked size (now first) × Checked size (now second) × Checked size (now target)
+        × (front .0 < fronts size) × (inFront (front .0) (now target) ≡ []) ⌝ }
+    ensures { λ r. ⌜ reached r (now (target .exit))
+        ≡ bothInserted size (front .0) (now (first .entry)) (now (second .entry)) (now (target .entry)) ⌝ }
+{
+    let mut a = [0u32; 72];
+    let mut b = [0u32; 72];
+    let n = list_members(first, size, front, &mut a);
+    let m = list_members(second, size, front, &mut b);
+    join(&a[..n], &b[..m], size, front, target)
+}
+
+// Two ascending lists of keys into a front bucket that is empty: what stays is written, then what leaves goes behind it.
+fn join(a: &[u32], b: &[u32], size: usize, front: Front, target: &mut [u8]) -> bool
+    requires { ⌜ Checked size (now target) × (front .0 < fronts size) × (inFront (front .0) (now target) ≡ [])
+        × T (ascending (now a)) × T (ascending (now b)) × Below (allKeys layout1) (now a) × Below (allKeys layout1) (now b) × (length (now b) ≤ 72) ⌝ }
+    ensures { λ r. ⌜ reached r (now (target .exit))
+        ≡ andThen (insertAll layout1 size (front .0) (now (a .entry)) (now (target .entry))) (insertAll layout1 size (front .0) (now (b .entry))) ⌝ }
+{
+    let mut over = [0u32; 72];
+    let own = in_front(a.len());
+    let gone = fill_both(&a[..own], b, front, &mut over, target);
+    if push_all(&a[own..], size, front, target) {
+        return push_all(&over[..gone], size, front, target);
+    }
+    false
+}
+
+// How many of n ascending keys an empty front bucket keeps.
+fn in_front(n: usize) -> usize
+    ensures { λ r. ⌜ (r ≤ n) × (r ≤ 28) × (r < 28 → n ≤ r) ⌝ }
+{
+    if n < 28 {
+        return n;
+    }
+    28
+}
+
+// A front bucket takes the keys of `a` and after them those of `b`, whatever its bytes were; those that leave it go into the start of
+// `over`; how many.
+fn fill_both(a: &[u32], b: &[u32], front: Front, over: &mut [u32], target: &mut [u8]) -> usize
+    requires { ⌜ FrontList layout1 (now a) × T (ascending (now b)) × Below (allKeys layout1) (now b) × (length (now b) ≤ 72)
+        × (length (now over) ≡ 72) × (64 * front .0 + 64 ≤ length (now target)) ⌝ }
+    ensures { λ r. ⌜ (r ≤ 72) × (take r (now (over .exit)) ≡ goes 28 (now (b .entry)) (now (a .entry)))
+        × (now (target .exit) ≡ putFront layout1 (front .0) (stays 28 (now (b .entry)) (now (a .entry))) (now (target .entry))) ⌝ }
+{
+    let mut keys = [0u32; 28];
+    let split = settle(a, b, over);
+    merge_into(&a[..split.kept], &b[..split.taken], &mut keys);
+    fill_front_at(target, front, &keys[..split.kept + split.taken]);
+    split.gone
+}
+
+// Keys behind a front bucket, one after the other, until both backyard buckets are full.
+fn push_all(keys: &[u32], size: usize, front: Front, target: &mut [u8]) -> bool
+    requires { ⌜ BehindRead size (front .0) (now target) × Below (allKeys layout1) (now keys) ⌝ }
+    ensures { λ r. ⌜ (reached r (now (target .exit)) ≡ pushAll layout1 size (front .0) (now (keys .entry)) (now (target .entry)))
+        × BehindRead size (front .0) (now (target .exit)) ⌝ }
 {
     let mut i = 0;
     while i < keys.len() {
-        let key = keys[i];
-        let Changed::Accepted(_) = insert_at(target, Target { size, front, key }) else {
+        if !push(target, size, front, keys[i]) {
             return false;
-        };
+        }
         i += 1;
     }
     true
+}
+
+// A key behind a front bucket: "to First(f) if n0 < n1, else to Second(f)". Where n0 is not below n1, both hold 22 if b1 does.
+fn push(image: &mut [u8], size: usize, front: Front, key: u32) -> bool
+    requires { ⌜ BehindRead size (front .0) (now image) × (key < allKeys layout1) ⌝ }
+    ensures { λ r. ⌜ (reached r (now (image .exit)) ≡ pushAt layout1 size (front .0) key (now (image .entry)))
+        × BehindRead size (front .0) (now (image .exit)) ⌝ }
+{
+    let first = first_of(front, size);
+    let second = second_of(front, size);
+    let n0 = count_back_at(image, size, first.bucket);
+    let n1 = count_back_at(image, size, second.bucket);
+    if n0 < n1 {
+        put_behind(image, size, first, key);
+        return true;
+    }
+    if n1 == 22 {
+        return false;
+    }
+    put_behind(image, size, second, key);
+    true
+}
+
+// A key joins a sound backyard bucket that has a free slot, with the crumb that it carries there.
+fn put_behind(image: &mut [u8], size: usize, way: Overflow, key: u32)
+    requires { ⌜ BackRead size (way .bucket .0) (now image) × (length (inBack size (way .bucket .0) (now image)) < 22) × (way .crumb < 16) × (key < allKeys layout1) ⌝ }
+    ensures { λ _. ⌜ now (image .exit) ≡ putBack layout1 size (way .bucket .0)
+        (added (key * 16 + way .crumb) (inBack size (way .bucket .0) (now (image .entry)))) (now (image .entry)) ⌝ }
+{
+    let member = key * 16 + way.crumb;
+    let slot = rank_back_at(image, size, way.bucket, member);
+    insert_back_at(image, size, way.bucket, slot, member);
 }

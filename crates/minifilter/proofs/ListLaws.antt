@@ -5,17 +5,17 @@ use mathlib.Core.Path.{_≡_, refl, sym, ap, _∙_}
 use Prim.Native.Nat.{ℕ, zero, suc, _+_, _*_, _/_, _%_, _-_, _^_, _≤_, _<_}
 use mathlib.Core.Bool.{Bool, true, false}
 use mathlib.Core.List.{List, [], _∷_, _++_, append-nil}
-use native.Mathlib.Nat.{pow-succ', add-suc, suc-add}
+use native.Mathlib.Nat.{pow-succ', add-suc, suc-add, le-antisymm}
 use native.Mathlib.Numerals.{add-one}
-use native.Mathlib.Decide.{ℕ-discrete}
+use native.Mathlib.Decide.{decLe, ℕ-discrete}
 use native.Mathlib.Omega.{arith}
 use lib.ListN.{length, take, drop, set, getD, List·getD-append, length-append}
 use lib.Seq.{take-suc, drop-cons, set-at, append-snoc, length-take-le}
 use lib.Count.{leadingZeros, trailingZeros, ones, leading-unique}
 use lib.Bits.{bitAnd}
-use lib.Dec.{lit<}
+use lib.Dec.{T, lit<}
 use borrow.Author.Tests.{eq-eqb, ne-eqb, eqb-true, eqb-false}
-use Rattle.multiset.specs.Multisets.{largest, Below}
+use Rattle.multiset.specs.Multisets.{largest, ascending, below, Below}
 use Rattle.multiset.specs.Digits.{value, spread, grouped, highs}
 use Rattle.minifilter.specs.Select.{selectIn}
 use Rattle.minifilter.specs.Buckets.{carrying}
@@ -23,6 +23,7 @@ use Rattle.minifilter.specs.Readings.{minisOf, firstOf}
 use Rattle.minifilter.specs.Slots.{slotMinis}
 use Rattle.minifilter.specs.Edits.{spanOf, wantedAt, chosen}
 use Rattle.minifilter.specs.declared.Carried.the-variants.{Key}
+use Rattle.multiset.proofs.SlotLaws.{slot-holds, holds-from, holds-copy}
 use Rattle.multiset.proofs.DigitLaws.{below-spread, length-highs}
 use Rattle.minifilter.proofs.WordLaws.{Run, Coded, coded-run}
 use Rattle.minifilter.proofs.GapLaws.{gaps, gap-place, gap-next, gap-below, gap-some}
@@ -220,13 +221,31 @@ unfolding carrying
 carrying-none c [] h = refl
 carrying-none c (y ∷ ys) h = rw (ne-eqb (y % 16) c (h 0 (omega arith))) (carrying-none c ys (λ i l. h (suc i) (omega arith)))
 
-pub carrying-first : (c r : ℕ) (ys : List ℕ) → r < length ys → ((i : ℕ) → i < r → getD ys i 0 % 16 ≡ c → ⊥) → getD ys r 0 % 16 ≡ c
-    → firstOf (carrying c ys) ≡ Key (getD ys r 0 / 16)
+-- the first that does leads them
+carrying-head : (c r : ℕ) (all ys : List ℕ) → r < length ys → ((i : ℕ) → i < r → getD ys i 0 % 16 ≡ c → ⊥) → getD ys r 0 % 16 ≡ c
+    → firstOf c all (carrying c ys) ≡ Key (getD ys r 0 / 16) (below (getD ys r 0 / 16 * 16 + c) all)
 unfolding carrying
-carrying-first c r [] l h e = absurd (omega arith)
-carrying-first c zero (y ∷ ys) l h e = rw (eq-eqb (y % 16) c e)
-carrying-first c (suc r) (y ∷ ys) l h e =
-    rw (ne-eqb (y % 16) c (h 0 (omega arith))) (carrying-first c r ys (omega arith) (λ i k. h (suc i) (omega arith)) e)
+carrying-head c r all [] l h e = absurd (omega arith)
+carrying-head c zero all (y ∷ ys) l h e = rw (eq-eqb (y % 16) c e)
+carrying-head c (suc r) all (y ∷ ys) l h e =
+    rw (ne-eqb (y % 16) c (h 0 (omega arith))) (carrying-head c r all ys (omega arith) (λ i k. h (suc i) (omega arith)) e)
+
+module _ (c r : ℕ) (ys : List ℕ) (a : T (ascending ys)) (l : r < length ys) (h : (i : ℕ) → i < r → getD ys i 0 % 16 ≡ c → ⊥)
+    (e : getD ys r 0 % 16 ≡ c) where
+  -- and those before it are below it: the lowest slot that holds its equal is its own
+  first-below : below (getD ys r 0) ys ≡ r
+  first-below =
+      let y : ℕ = getD ys r 0 in
+      elim (decLe r (below y ys)) [
+        | yes g ↦ le-antisymm (holds-from y r ys a l refl) g
+        | no n ↦ absurd (h (below y ys) (omega arith) (ap (λ (x : ℕ). x % 16) (slot-holds y ys a (holds-copy y r ys a l refl)) ∙ e))
+      ]
+
+  pub carrying-first : firstOf c ys (carrying c ys) ≡ Key (getD ys r 0 / 16) r
+  carrying-first =
+      let y : ℕ = getD ys r 0 in
+      let same : y / 16 * 16 + c ≡ y = omega arith in
+      carrying-head c r ys ys l h e ∙ ap (λ (x : ℕ). Key (y / 16) (below x ys)) same ∙ ap (Key (y / 16)) first-below
 
 -- ---- a turn of the loop over the slots in use
 

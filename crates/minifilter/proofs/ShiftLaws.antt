@@ -22,6 +22,7 @@ use lib.Seq.{
   take-take,
   take-add,
   drop-drop,
+  take-set-le,
   take-suc-set,
   drop-set-lt,
   length-take-le,
@@ -173,6 +174,10 @@ module _ (s : List ℕ) (i a b : ℕ) (h : i + 2 ≤ length s) where
   stored-drop : drop (i + 2) (set (set s i a) (i + 1) b) ≡ drop (i + 2) s
   stored-drop = rw stored (drop-at (take i s ++ (a ∷ b ∷ [])) (drop (i + 2) s) (i + 2) front-long)
 
+  stored-from : drop i (set (set s i a) (i + 1) b) ≡ a ∷ b ∷ drop (i + 2) s
+  stored-from = rw (stored, append-assoc (take i s) (a ∷ b ∷ []) (drop (i + 2) s))
+      (drop-at (take i s) (a ∷ b ∷ drop (i + 2) s) i (length-take-le i s (omega arith)))
+
 drop-two : (s : List ℕ) (i : ℕ) → i + 2 ≤ length s → drop i s ≡ getD s i 0 ∷ getD s (i + 1) 0 ∷ drop (i + 2) s
 drop-two s i h =
     let two : i + 2 ≡ suc (suc i) = omega arith in
@@ -183,27 +188,44 @@ unfolding digits
 tag-digits t h = let high : t / 256 % 256 ≡ t / 256 = omega arith in rw high
 
 -- a loop over all bytes is at its end
-pub all-done : (s rest : List ℕ) (i n : ℕ) → length s ≡ n → n ≤ i → s ≡ take i s ++ take (n - i) rest
-all-done s rest i n e h = let none : n - i ≡ 0 = omega arith in rw none (sym (append-nil (take i s) ∙ take-all i s (omega arith)))
-
 pub halves-done : (s rest : List ℕ) (i n : ℕ) → length s ≡ n → n ≤ i → s ≡ take i s ++ grouped 16 2 (n - i) rest
 unfolding grouped
 halves-done s rest i n e h = let none : n - i ≡ 0 = omega arith in rw none (sym (append-nil (take i s) ∙ take-all i s (omega arith)))
 
--- the tags from byte i on give way to the two bytes a and b
-pub tag-in-on : (s : List ℕ) (i a b n : ℕ) → i + 2 ≤ length s → i + 2 ≤ n
-    → take (i + 2) (set (set s i a) (i + 1) b) ++ take (n - (i + 2)) (getD s i 0 ∷ getD s (i + 1) 0 ∷ drop (i + 2) (set (set s i a) (i + 1) b))
-    ≡ take i s ++ take (n - i) (a ∷ b ∷ drop i s)
-tag-in-on s i a b n h l =
-    let two : n - i ≡ suc (suc (n - (i + 2))) = omega arith in
-    let rest : List ℕ = getD s i 0 ∷ getD s (i + 1) 0 ∷ drop (i + 2) s in
-    rw (stored-take s i a b h, stored-drop s i a b h, two, drop-two s i h) (append-assoc (take i s) (a ∷ b ∷ []) (take (n - (i + 2)) rest))
+pub tag-in-start : (s : List ℕ) → 2 ≤ length s → take (length s - 2) s ++ drop (length s - 2 + 2) s ≡ take (length s - 2) s
+tag-in-start s h = rw (drop-of-length-le s {i = length s - 2 + 2} (omega arith)) (append-nil (take (length s - 2) s))
 
-pub tag-in-start : (s : List ℕ) (i a b : ℕ) → i ≤ length s
-    → take i s ++ take (length s - i) (a ∷ b ∷ drop i s) ≡ take (length s) (inserted i (a ∷ b ∷ []) s)
-tag-in-start s i a b h =
-    let len : length (take i s) ≡ i = length-take-le i s h in
-    sym (take-over (length s) (take i s) (a ∷ b ∷ drop i s) (omega arith) ∙ rw len)
+-- the tag in front of byte i moves to byte i: the tags but for the one at hand stay the same
+pub tag-in-on : (s : List ℕ) (i : ℕ) → 2 ≤ i → i + 2 ≤ length s
+    → let s2 : List ℕ = set (set s i (getD s (i - 2) 0)) (i + 1) (getD s (i - 1) 0) in
+    take (i - 2) s2 ++ drop (i - 2 + 2) s2 ≡ take i s ++ drop (i + 2) s
+tag-in-on s i l h =
+    let a : ℕ = getD s (i - 2) 0 in
+    let b : ℕ = getD s (i - 1) 0 in
+    let here : i - 2 + 2 ≡ i = omega arith in
+    let one : i - 2 + 1 ≡ i - 1 = omega arith in
+    let front : take (i - 2) (set (set s i a) (i + 1) b) ≡ take (i - 2) s =
+    take-set-le (i - 2) (set s i a) (i + 1) b (omega arith) ∙ take-set-le (i - 2) s i a (omega arith) in
+    let next : drop (i - 2) s ≡ a ∷ b ∷ drop i s = rw (here, one) at (drop-two s (i - 2) (omega arith)) in
+    let both : take i s ≡ take (i - 2) s ++ (a ∷ b ∷ []) = rw (here, next) at (take-add (i - 2) 2 s) in
+    rw (here, front, stored-from s i a b h, both) (sym (append-assoc (take (i - 2) s) (a ∷ b ∷ []) (drop (i + 2) s)))
+
+tag-in-take : (i n a b : ℕ) (l : List ℕ) → i ≤ n → n ≤ length l → inserted i (a ∷ b ∷ []) (take n l) ≡ take (suc (suc n)) (inserted i (a ∷ b ∷ []) l)
+tag-in-take zero n a b l h k = refl
+tag-in-take (suc i) zero a b l h k = absurd (omega arith)
+tag-in-take (suc i) (suc n) a b [] h k = absurd (omega arith)
+tag-in-take (suc i) (suc n) a b (x ∷ l) h k = ap (λ (r : List ℕ). x ∷ r) (tag-in-take i n a b l (omega arith) (omega arith))
+
+-- a tag is written at byte i, where the other tags are those of l but for its last
+pub tag-in-end : (s l : List ℕ) (i a b : ℕ) → i + 2 ≤ length l → length s ≡ length l → take i s ++ drop (i + 2) s ≡ take (length l - 2) l
+    → set (set s i a) (i + 1) b ≡ take (length l) (inserted i (a ∷ b ∷ []) l)
+tag-in-end s l i a b h k e =
+    let long : length (take i s) ≡ i = length-take-le i s (omega arith) in
+    let all : suc (suc (length l - 2)) ≡ length l = omega arith in
+    let put : set (set s i a) (i + 1) b ≡ inserted i (a ∷ b ∷ []) (take i s ++ drop (i + 2) s) =
+    rw (stored s i a b (omega arith), take-at (take i s) (drop (i + 2) s) i long, drop-at (take i s) (drop (i + 2) s) i long)
+    (append-assoc (take i s) (a ∷ b ∷ []) (drop (i + 2) s)) in
+    put ∙ ap (inserted i (a ∷ b ∷ [])) e ∙ rw all at (tag-in-take i (length l - 2) a b l (omega arith) (omega arith))
 
 -- the tags from byte i + 2 on follow those in front of byte i
 pub tag-out-on : (s z : List ℕ) (i : ℕ) → i + 4 ≤ length s

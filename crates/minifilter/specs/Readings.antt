@@ -1,6 +1,6 @@
 -- A bucket at layout 1 as the code's contracts speak of it: what the reader says, and the members of a bucket that was read.
 use mathlib.Core.Path.{_≡_}
-use Prim.Native.Nat.{ℕ}
+use Prim.Native.Nat.{ℕ, _+_, _*_}
 use mathlib.Core.List.{List, [], _∷_}
 use mathlib.Core.Option.{Option, none, some}
 use lib.ListN.{length, drop}
@@ -47,7 +47,7 @@ pub record SoundBack (b : List ℕ) : Type 0 where
   pub long : length b ≡ 64
   pub sound : backMembers layout1 size bucket b ≡ some (backList b)
 
--- the head of a list of keys
-abbrev pub firstOf : List ℕ → Carried
-firstOf [] = Nothing
-firstOf (x ∷ xs) = Key x
+-- the head of the keys that carry crumb c among members ys, and how many members are below it
+abbrev pub firstOf : ℕ → List ℕ → List ℕ → Carried
+firstOf c ys [] = Nothing
+firstOf c ys (x ∷ xs) = Key x (below (x * 16 + c) ys)

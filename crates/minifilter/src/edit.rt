@@ -15,21 +15,20 @@ ghost use Rattle.minifilter.specs.Edits.{crumbInserted, crumbRemoved, ha
 
 // A tag is put in at a slot of the tags' bytes, and the last one falls off.
 fn insert_tag(s: &mut [u8], slot: usize, tag: u32)
-    requires { ⌜ (length (now s) % 2 ≡ 0) × (slot * 2 ≤ length (now s)) × (tag < 65536) ⌝ }
+    requires { ⌜ (length (now s) % 2 ≡ 0) × (slot * 2 + 2 ≤ length (now s)) × (tag < 65536) ⌝ }
     ensures { λ _. ⌜ now (s .exit) ≡ take (length (now (s .entry))) (inserted (slot * 2) (digits 256 2 tag) (now (s .entry))) ⌝ }
 {
-    let mut low = (tag % 256) as u8;
-    let mut high = (tag / 256) as u8;
-    let mut i = slot * 2;
-    while i < s.len() {
-        let next_low = s[i];
-        let next_high = s[i + 1];
+    let from = slot * 2;
+    let mut i = s.len() - 2;
+    while from < i {
+        let low = s[i - 2];
+        let high = s[i - 1];
         s[i] = low;
         s[i + 1] = high;
-        low = next_low;
-        high = next_high;
-        i += 2;
+        i -= 2;
     }
+    s[i] = (tag % 256) as u8;
+    s[i + 1] = (tag / 256) as u8;
 }
 
 // The tag at a slot is taken out, and a zero follows the others.

@@ -211,17 +211,17 @@ fn first_slot(b: &[u8], members: usize, crumb: u32) -> usize
     slot
 }
 
-// The lowest of the keys that carry a crumb.
+// The lowest of the keys that carry a crumb, and its slot.
 pub fn first_carrying(b: &[u8], crumb: u32) -> Carried
     requires { ⌜ SoundBack (now b) × (crumb < 16) ⌝ }
-    ensures { λ r. ⌜ r ≡ firstOf (carrying crumb (backList (now (b .entry)))) ⌝ }
+    ensures { λ r. ⌜ r ≡ firstOf crumb (backList (now (b .entry))) (carrying crumb (backList (now (b .entry)))) ⌝ }
 {
     let members = word::occupancy(word::word_of(b));
     let slot = first_slot(b, members, crumb);
     if members <= slot {
         return Carried::Nothing;
     }
-    Carried::Key(member_in(b, true, slot) / 16)
+    Carried::Key(member_in(b, true, slot) / 16, slot)
 }
 
 // How many keys carry a crumb in a backyard bucket.

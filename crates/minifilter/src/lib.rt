@@ -20,9 +20,9 @@ pub(crate) enum Order {
     Broken,
 }
 
-// The lowest key among a backyard bucket's members that carry a crumb.
+// The lowest key among a backyard bucket's members that carry a crumb, and its lowest slot.
 pub enum Carried {
-    Key(u32),
+    Key(u32, usize),
     Nothing,
 }
 

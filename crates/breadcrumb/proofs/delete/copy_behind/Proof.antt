@@ -55,13 +55,13 @@ returns c =
 returns-2 : tie.Need-returns-2
 returns-2 c =
     let c8 = c .before .before .before .before .before .before .before .before in
-    copy-second (c8 .args .target .key) (c8 .pre .1 .read) (omega (arith, first (c .before .before)))
+    copy-second (c8 .args .target .key) (c8 .pre .1 .read) (c8 .pre .2) (omega (arith, first (c .before .before)))
     (rw (second (c .before .before)) at (above-zero _ (c .if2 .left)))
 
 returns-3 : tie.Need-returns-3
 returns-3 c =
     let c8 = c .before .before .before .before .before .before .before .before in
-    copy-first (c8 .args .target .key) (c8 .pre .1 .read) (rw (first (c .before .before)) at (above-zero _ (c .before .if1 .left)))
+    copy-first (c8 .args .target .key) (c8 .pre .1 .read) (c8 .pre .2) (rw (first (c .before .before)) at (above-zero _ (c .before .if1 .left)))
     (omega (arith, second (c .before .before)))
 
 returns-4 : tie.Need-returns-4
@@ -69,7 +69,7 @@ returns-4 c =
     let c5 = c .before .before .before .before .before in
     let s = c5 .before .before .before .before .before .before in
     let b = s .pre .1 in
-    copy-both (s .args .target .key) (b .read) true (rw (first c5) at (above-zero _ (c .before .before .before .before .if1 .left)))
+    copy-both (s .args .target .key) (b .read) (s .pre .2) true (rw (first c5) at (above-zero _ (c .before .before .before .before .if1 .left)))
     (rw (second c5) at (above-zero _ (c .before .before .before .if3 .left)))
     (rw (b .first, b .second) (lt-ltb _ _ (c .if4 .taken)))
 
@@ -78,7 +78,7 @@ returns-5 c =
     let c5 = c .before .before .before .before .before in
     let s = c5 .before .before .before .before .before .before in
     let b = s .pre .1 in
-    copy-both (s .args .target .key) (b .read) false (rw (first c5) at (above-zero _ (c .before .before .before .before .if1 .left)))
+    copy-both (s .args .target .key) (b .read) (s .pre .2) false (rw (first c5) at (above-zero _ (c .before .before .before .before .if1 .left)))
     (rw (second c5) at (above-zero _ (c .before .before .before .if3 .left)))
     (rw (b .first, b .second) (le-ltb _ _ (c .if4 .left)))
 

@@ -5,11 +5,9 @@ use mathlib.Core.Bool.{true, false}
 use native.Mathlib.Omega.{arith}
 use borrow.Author.Needs.{needs}
 use borrow.Author.Tests.{lt-ltb, le-ltb}
-use Rattle.minifilter.specs.Readings.{firstOf}
 use Rattle.minifilter.specs.declared.Carried.{Carried}
-use Rattle.breadcrumb.specs.Steps.{inFirst, inSecond}
 use Rattle.breadcrumb.proofs.StepLaws.{chosen-way}
-use Rattle.breadcrumb.proofs.LeavingLaws.{first-key, second-key, least-none, least-first-only, least-second-only, least-first, least-second, least-tie}
+use Rattle.breadcrumb.proofs.LeavingLaws.{leadsFirst, leadsSecond, first-key, second-key, least-none, least-first-only, least-second-only, least-first, least-second, least-tie}
 use Rattle.breadcrumb.proofs.delete.least_behind.Statement.{statement}
 use Rattle.breadcrumb.proofs.delete.least_behind.Tie as tie
 
@@ -43,10 +41,10 @@ enum-known-in-second c = search needs
 enum-told-2 : tie.Need-enum-told-2
 enum-told-2 c = search needs
 
--- the first keys of First(f) and of Second(f)
+-- the first keys of First(f) and of Second(f), with their slots
 first : (c : tie.After-first-carrying-at2) {k : Carried} →
     let s = c .before .before .before .before .before in
-    c .before .first-carrying-at .result ≡ k → firstOf (inFirst (s .args .size) (s .args .front .0) (s .args .image .now)) ≡ k
+    c .before .first-carrying-at .result ≡ k → leadsFirst (s .args .size) (s .args .front .0) (s .args .image .now) ≡ k
 first c e =
     let c3 = c .before .before .before in
     let c5 = c3 .before .before in
@@ -54,7 +52,7 @@ first c e =
 
 second : (c : tie.After-first-carrying-at2) {k : Carried} →
     let s = c .before .before .before .before .before in
-    c .first-carrying-at2 .result ≡ k → firstOf (inSecond (s .args .size) (s .args .front .0) (s .args .image .now)) ≡ k
+    c .first-carrying-at2 .result ≡ k → leadsSecond (s .args .size) (s .args .front .0) (s .args .image .now) ≡ k
 second c e =
     let c5 = c .before .before .before .before .before in
     second-key (c5 .args .image .now) (c .before .before .second-of .ensures) (c .first-carrying-at2 .ensures) e
@@ -70,7 +68,7 @@ returns-2 c =
     let c3 = c .before .before .before in
     let c5 = c3 .before .before in
     let c10 = c5 .before .before .before .before .before in
-    least-second-only (c10 .pre .1 .read) (c .before .in-second .given .0 .0) (first c5 (c3 .enum-told .given .1))
+    least-second-only (c10 .pre .1 .read) _ _ (first c5 (c3 .enum-told .given .1))
     (second c5 (c .before .in-second .given .1))
 
 enum-known-in-second-2 : tie.Need-enum-known-in-second-2
@@ -84,7 +82,7 @@ returns-3 c =
     let c3 = c .before .before .before in
     let c5 = c3 .before .before in
     let c10 = c5 .before .before .before .before .before in
-    least-first-only (c10 .pre .1 .read) (c3 .in-first .given .0 .0) (first c5 (c3 .in-first .given .1)) (second c5 (c .enum-told3 .given .1))
+    least-first-only (c10 .pre .1 .read) _ _ (first c5 (c3 .in-first .given .1)) (second c5 (c .enum-told3 .given .1))
 
 returns-4 : tie.Need-returns-4
 returns-4 c =

@@ -28,9 +28,11 @@ take-out-requires c κs =
     let j = s .args .way .bucket .0 in
     let p = s .pre .placed .within .front in
     let b = s .pre .behind in
+    let kept = inBack-kept (t .front .0) zs img (s .pre .front .read .inside) l (t .size) j p in
     rw (c3 .swap-front-at .ensures) (record {
       back = back-kept (t .front .0) zs img (s .pre .front .read .inside) l (t .size) j p (b .back);
-      there = rw (inBack-kept (t .front .0) zs img (s .pre .front .read .inside) l (t .size) j p) (b .there);
+      there = rw kept (b .there);
+      slot = rw kept (b .slot);
       crumb = b .crumb;
       key = b .key;
     })

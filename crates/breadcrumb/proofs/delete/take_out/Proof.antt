@@ -12,13 +12,10 @@ mul-member c = search needs
 add-member : tie.Need-add-member
 add-member c = search needs
 
-rank-back-at-requires : tie.Need-rank-back-at-requires
-rank-back-at-requires c κs = search needs
-
 remove-back-at-requires : tie.Need-remove-back-at-requires
 remove-back-at-requires c κs =
-    let s = c .before .before .before .before .before .before in
-    (s .pre .back, rw (c .before .rank-back-at .ensures) (below-at (s .pre .back .list .order) (s .pre .there)))
+    let s = c .before .before .before .before in
+    (s .pre .back, rw (s .pre .slot) (below-at (s .pre .back .list .order) (s .pre .there)))
 
 add-result : tie.Need-add-result
 add-result c = search needs
@@ -36,7 +33,6 @@ take-out-spec =
     (tie.spec
     mul-member
     add-member
-    rank-back-at-requires
     remove-back-at-requires
     add-result
     same-length

@@ -38,8 +38,15 @@ returns c =
     let d = c .before .before .before in
     rw (reached-all (d .merge-fronts .result) (d .merge-fronts .last .1 .1 .1 .0) (filled d) (c .if1 .taken)) record { answer = refl; bytes = refl }
 
+-- the target has the length that it had
+still : (c : tie.After-merge-fronts) → SizedAs (start c .args .size) (c .merge-fronts .last .1 .1 .1 .0)
+still c =
+    let long : length (c .merge-fronts .last .1 .1 .1 .0) ≡ length (start c .args .target .now) =
+    c .merge-fronts .kept .1 .1 .1 .0 ∙ c .before .before .before .before .fresh .kept .0 in
+    rw long (start c .pre .2)
+
 give-up-requires : tie.Need-give-up-requires
-give-up-requires c κs = search needs
+give-up-requires c κs = still (c .before .before .before .before)
 
 same-length-2 : tie.Need-same-length-2
 same-length-2 c = search needs
@@ -50,12 +57,10 @@ returns-2 c =
     let d = i .before .before .before in
     let s = start d in
     let t = d .merge-fronts .last .1 .1 .1 .0 in
-    let long : length t ≡ length (s .args .target .now) = d .merge-fronts .kept .1 .1 .1 .0 ∙ d .before .before .before .before .fresh .kept .0 in
-    let still : SizedAs (s .args .size) t = rw long (s .pre .2) in
     let e = c .before .before .give-up .ensures in
     rw (reached-full (d .merge-fronts .result) t (filled d) (i .if1 .left)) record {
       answer = e .answer;
-      bytes = e .bytes ∙ fresh-sized (s .args .size) t still ∙ sym (fresh-sized (s .args .size) (s .args .target .now) (s .pre .2));
+      bytes = e .bytes ∙ fresh-sized (s .args .size) t (still d) ∙ sym (fresh-sized (s .args .size) (s .args .target .now) (s .pre .2));
     }
 
 pub merge-checked-spec : {M : Type 1} → statement M

@@ -1,4 +1,4 @@
--- `find::first_carrying` meets its contract: the first slot that holds the crumb holds the lowest key that carries it.
+-- `find::first_carrying` meets its contract: the first slot that holds the crumb holds the lowest key that carries it, and the members before it are below it.
 use borrow.Author.Needs.{needs}
 use mathlib.Core.Path.{_≡_, sym, ap, _∙_}
 use Prim.Native.Nat.{ℕ, _/_, _<_}
@@ -40,7 +40,7 @@ returns c =
     let b = s .args .b .now in
     let ys = backList b in
     let h = known (counted .before) in
-    sym (ap firstOf (carrying-none (s .args .crumb) ys
+    sym (ap (firstOf (s .args .crumb) ys) (carrying-none (s .args .crumb) ys
     (λ i l e. first .other i (omega (arith, members-are counted)) (held-crumb b ys h i l ∙ e))))
 
 member-in-requires : tie.Need-member-in-requires
@@ -54,8 +54,8 @@ returns-2 c =
     let first = c .before .before .first-slot in
     let h = known (c .before .before .before .before) in
     let l : first .result < length ys = omega (arith, members-are (c .before .before .before)) in
-    ap (λ (y : ℕ). Key (y / 16)) (c .member-in .ensures)
-    ∙ sym (carrying-first (s .args .crumb) (first .result) ys l (λ i k e. first .ensures .other i k (held-crumb b ys h i (omega arith) ∙ e))
+    ap (λ (y : ℕ). Key (y / 16) (first .result)) (c .member-in .ensures)
+    ∙ sym (carrying-first (s .args .crumb) (first .result) ys (h .order) l (λ i k e. first .ensures .other i k (held-crumb b ys h i (omega arith) ∙ e))
     (sym (held-crumb b ys h (first .result) l) ∙ first .ensures .here (omega arith)))
 
 pub first-carrying-spec : {M : Type 1} → statement M

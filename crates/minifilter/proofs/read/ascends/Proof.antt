@@ -180,7 +180,9 @@ even-counted c =
     (c .if3 .came)
 
 add-below-2 : tie.Need-add-below-2 Inv-loop μ-loop
-add-below-2 c = omega (arith, slotCount-le (c .before .before .before .before .before .before .before .before .before .before .args .crumbs), even-counted (c .before .before) .0)
+add-below-2 c =
+    let l = c .before .before .before .before .before .before .before .before in
+    omega (arith, slotCount-le (l .before .before .args .crumbs), even-counted (c .before .before) .0)
 
 odd-counted : (c : tie.Joined4 Inv-loop μ-loop)
     → let l = c .before .before .before .before .before .before .before in let a = l .before .before .args in
