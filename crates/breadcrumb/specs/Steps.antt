@@ -99,8 +99,7 @@ pub record BackRead (B j : ℕ) (img : List ℕ) : Type 0 where
   pub sound : SoundBack (bucketAt (fronts B + j) img)
   pub list : BackList layout1 B j (inBack B j img)
 
--- what reading a bucket says: how many members, or the refusal with its table number
--- and how many are below x
+-- what reading a bucket says: how many members, and how many of them are below x, or the refusal with its table number
 abbrev pub FrontSays : ℕ → ℕ → List ℕ → Reading → Type 0
 FrontSays f x img (R.Members n s) = FrontRead f img × (length (inFront f img) ≡ n) × (s ≡ below x (inFront f img))
 FrontSays f x img R.Unsound = frontAt layout1 f img ≡ refused 3 f

@@ -1,5 +1,5 @@
 // The catalogue: one lent image, and the calls on it. Each call gives document 01's answer, or why it is refused;
-// `resultOf` and its like in specs/Answers.antt give the number and the values of each case.
+// `doneOf` and its like in specs/Answers.antt give the number and the values of each case.
 
 pub mod ask;
 mod backyard;

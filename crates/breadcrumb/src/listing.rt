@@ -21,7 +21,7 @@ ghost use Prim.Native.Nat.{_<_, _≤_};
 ghost use lib.ListN.{length};
 ghost use Rattle.minifilter.specs.Buckets.{carrying};
 ghost use Rattle.breadcrumb.specs.Steps.{inFront, inBack, FrontIn, FrontRead, BackRead};
-ghost use Rattle.breadcrumb.specs.Listings.{Listed, overflowIn, behindIn, membersIn, BehindRead, MembersRead, HeldSays};
+ghost use Rattle.breadcrumb.specs.Listings.{Listed, overflowIn, membersIn, BehindRead, MembersRead, HeldSays};
 
 // The keys of a sound front bucket, in order, into the start of `out`; how many.
 fn list_front_at(image: &[u8], front: Front, out: &mut [u32]) -> usize
