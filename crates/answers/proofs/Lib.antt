@@ -1,3 +1,3 @@
--- Laws of answers as pairs of numbers, and of how many members there can be.
+-- Laws of answers and of how many members there can be.
 pub mod PairLaws
 pub mod RoomLaws

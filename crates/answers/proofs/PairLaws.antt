@@ -5,12 +5,12 @@ use Prim.Native.Nat.{ℕ, _<_}
 use native.Mathlib.Omega.{arith}
 use Rattle.machine.specs.Results.{Result, accepted, refused, andThen, number}
 use Rattle.machine.specs.Machine.{Change}
-use Rattle.breadcrumb.specs.Answers.{refusal, changeOf, answerOf}
-use Rattle.breadcrumb.specs.declared.Refusal.{Refusal}
-use Rattle.breadcrumb.specs.declared.Changed.{Changed}
-use Rattle.breadcrumb.specs.declared.Refusal.the-variants.{WrongLength, LengthsDiffer, Unsound, Full, Absent, PastEnd, NoRoom, Early}
+use Rattle.answers.specs.Answers.{refusal, changeOf, answerOf}
+use Rattle.answers.specs.declared.Refusal.{Refusal}
+use Rattle.answers.specs.declared.Changed.{Changed}
+use Rattle.answers.specs.declared.Refusal.the-variants.{WrongLength, LengthsDiffer, Unsound, Full, Absent, PastEnd, NoRoom, Early}
 use Rattle.answers.specs.Pairs.{saidOf, itself, answerValue}
-use Rattle.answers.specs.declared.Said.{Said}
+use Rattle.answers.specs.declared.pairs.Said.{Said}
 
 pub said-refusal : {A C : Type 0} (v : A → ℕ) (w : C → ℕ) (r : Refusal) → saidOf v (refusal r) ≡ saidOf w (refusal r)
 said-refusal v w WrongLength = refl

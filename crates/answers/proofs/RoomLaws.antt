@@ -15,13 +15,13 @@ use Rattle.multiset.specs.Digits.{joined}
 use Rattle.crumbmap.specs.Layouts.{Layout}
 use Rattle.crumbmap.specs.CrumbMap.{firstBucket, secondBucket, firstCrumb, secondCrumb}
 use Rattle.crumbmap.specs.Fingerprints.{fingerprint}
-use Rattle.minifilter.specs.Buckets.{carrying, slotKeys, frontMembers, backMembers}
+use Rattle.buckets.specs.Buckets.{carrying, slotKeys, frontMembers, backMembers}
 use Rattle.machine.specs.Results.{accepted, andThen, orUnsound}
 use Rattle.machine.specs.Images.{bucketAt, frontAt, backAt}
 use Rattle.machine.specs.Bags.{addedAll}
 use Rattle.machine.specs.Machine.{backyard, overflow, membersAt}
 use Rattle.machine.specs.Pages.{Run, stopped, prepended, runFrom}
-use Rattle.minifilter.proofs.SlotBytes.{given-some}
+use Rattle.buckets.proofs.SlotBytes.{given-some}
 use Rattle.machine.proofs.BagLaws.{length-addedAll}
 use Rattle.answers.proofs.PairLaws.{accepted-eq, andThen-accepted}
 

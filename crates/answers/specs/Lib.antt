@@ -1,2 +1,3 @@
--- Answers as pairs of numbers.
+-- The answers of the calls: what each case of an answer enum means, and answers as pairs of numbers.
+pub mod Answers
 pub mod Pairs

@@ -2,9 +2,9 @@
 use Prim.Native.Nat.{ℕ}
 use Rattle.machine.specs.Results.{Result, accepted, refused}
 use Rattle.machine.specs.Machine.{Change}
-use Rattle.breadcrumb.specs.Answers.{refusal}
-use Rattle.breadcrumb.specs.declared.Refusal.{Refusal}
-use Rattle.answers.specs.declared.Said.{Said}
+use Rattle.answers.specs.Answers.{refusal}
+use Rattle.answers.specs.declared.Refusal.{Refusal}
+use Rattle.answers.specs.declared.pairs.Said.{Said}
 
 -- a result by the value of its answer
 abbrev pub saidOf : {A : Type 0} → (A → ℕ) → Result A → Said

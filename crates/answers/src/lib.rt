@@ -1,66 +1,66 @@
-// An answer as two numbers, for callers that take no enum: "the numbers a caller may get", and the value beside it.
+// The answers of the calls: each gives document 01's answer, or why it is refused; `doneOf` and its like in specs/Answers.antt give the
+// number and the values of each case.
 
-use breadcrumb::Changed;
-use breadcrumb::Refusal;
-ghost use mathlib.Core.Path.{_≡_};
-ghost use Rattle.breadcrumb.specs.Answers.{changeOf};
-ghost use Rattle.answers.specs.Pairs.{saidOf, refusalOf, itself};
+pub mod pairs;
 
-// The number of an answer, 0 when accepted, and its value; a refusal's value is its table number, else 0.
-pub struct Said {
-    pub number: u64,
-    pub value: u64,
+// "The numbers a caller may get", 1 to 8 in this order. An unsound bucket and one with a member before its turn have a table number.
+pub enum Refusal {
+    WrongLength,
+    LengthsDiffer,
+    Unsound(usize),
+    Full,
+    Absent,
+    PastEnd,
+    NoRoom,
+    Early(usize),
 }
 
-// A refusal.
-pub fn refused(why: Refusal) -> Said
-    ensures { λ s. ⌜ s ≡ refusalOf why ⌝ }
-{
-    match why {
-        Refusal::WrongLength => Said {
-            number: 1,
-            value: 0,
-        },
-        Refusal::LengthsDiffer => Said {
-            number: 2,
-            value: 0,
-        },
-        Refusal::Unsound(table) => Said {
-            number: 3,
-            value: table as u64,
-        },
-        Refusal::Full => Said {
-            number: 4,
-            value: 0,
-        },
-        Refusal::Absent => Said {
-            number: 5,
-            value: 0,
-        },
-        Refusal::PastEnd => Said {
-            number: 6,
-            value: 0,
-        },
-        Refusal::NoRoom => Said {
-            number: 7,
-            value: 0,
-        },
-        Refusal::Early(table) => Said {
-            number: 8,
-            value: table as u64,
-        },
-    }
+// What a fresh, a check or a merge gives.
+pub enum Done {
+    Accepted,
+    Refused(Refusal),
 }
 
-// What an insert or a delete gives: its answer, or its refusal.
-pub fn changed(given: Changed) -> Said
-    ensures { λ s. ⌜ s ≡ saidOf itself (changeOf given) ⌝ }
-{
-    match given {
-        Changed::Accepted(answer) => Said {
-            number: 0,
-            value: answer as u64,
-        },
-        Changed::Refused(why) => refused(why),
-    }
+// What an insert or a delete gives: "0, or 1 + the backyard number".
+pub enum Changed {
+    Accepted(usize),
+    Refused(Refusal),
+}
+
+// "A place: none, front, first or second, the last three with the lowest slot of g in that bag."
+pub enum Place {
+    Nowhere,
+    Front(usize),
+    First(usize),
+    Second(usize),
+}
+
+// "An ask gives its reads and a place."
+pub struct Asked {
+    pub reads: u32,
+    pub place: Place,
+}
+
+// What an ask gives.
+pub enum Answer {
+    Accepted(Asked),
+    Refused(Refusal),
+}
+
+// "Count gives copies and reads."
+pub struct Counted {
+    pub copies: usize,
+    pub reads: u32,
+}
+
+// What a count gives.
+pub enum Tally {
+    Accepted(Counted),
+    Refused(Refusal),
+}
+
+// What a page gives: how many, and "the next bucket".
+pub enum Paged {
+    Accepted(usize, usize),
+    Refused(Refusal),
 }

@@ -1,150 +1,68 @@
-// The catalogue: one lent image, and the calls on it. Each call gives document 01's answer, or why it is refused;
-// `doneOf` and its like in specs/Answers.antt give the number and the values of each case.
+// The catalogue: one lent image, and the eight calls on it. Each gives document 01's answer, or why it is refused, and every byte that it was
+// lent is the plain machine's after it.
 
-pub mod ask;
-mod backyard;
-pub mod check;
-pub mod count;
-pub mod delete;
-pub mod fresh;
-mod image;
-pub mod insert;
-mod listing;
-mod lists;
-pub mod merge;
-pub mod page;
-mod settle;
+use answers::Answer;
+use answers::Changed;
+use answers::Done;
+use answers::Paged;
+use answers::Tally;
+ghost use mathlib.Core.Path.{_≡_};
+ghost use Rattle.crumbmap.specs.Layouts.{layout1};
+ghost use Rattle.machine.specs.Calls.{askOf, countOf, checkOf};
+ghost use Rattle.answers.specs.Answers.{doneOf, askedOf, countedOf, Freshens, Inserts, Deletes, Pages, Merges};
 
-use crumbmap::Front;
-
-// "The numbers a caller may get", 1 to 8 in this order. An unsound bucket and one with a member before its turn have a table number.
-pub enum Refusal {
-    WrongLength,
-    LengthsDiffer,
-    Unsound(usize),
-    Full,
-    Absent,
-    PastEnd,
-    NoRoom,
-    Early(usize),
+// The image becomes an empty catalogue, whatever its bytes were.
+pub fn fresh(image: &mut [u8]) -> Done
+    ensures { λ r. ⌜ Freshens (now (image .entry)) r (now (image .exit)) ⌝ }
+{
+    image::fresh::fresh(image)
 }
 
-// What a fresh, a check or a merge gives.
-pub enum Done {
-    Accepted,
-    Refused(Refusal),
+// One more copy of a hash's fingerprint.
+pub fn insert(image: &mut [u8], hash: u64) -> Changed
+    ensures { λ r. ⌜ Inserts (now (image .entry)) hash r (now (image .exit)) ⌝ }
+{
+    insertion::insert::insert(image, hash)
 }
 
-// What an insert or a delete gives: "0, or 1 + the backyard number".
-pub enum Changed {
-    Accepted(usize),
-    Refused(Refusal),
+// One copy less of a hash's fingerprint.
+pub fn delete(image: &mut [u8], hash: u64) -> Changed
+    ensures { λ r. ⌜ Deletes (now (image .entry)) hash r (now (image .exit)) ⌝ }
+{
+    deletion::delete::delete(image, hash)
 }
 
-// "A place: none, front, first or second, the last three with the lowest slot of g in that bag."
-pub enum Place {
-    Nowhere,
-    Front(usize),
-    First(usize),
-    Second(usize),
+// Where the fingerprint of a hash stands, and how many buckets were read to tell.
+pub fn ask(image: &[u8], hash: u64) -> Answer
+    ensures { λ r. ⌜ askedOf r ≡ askOf layout1 (now (image .entry)) hash ⌝ }
+{
+    lookup::ask::ask(image, hash)
 }
 
-// "An ask gives its reads and a place."
-pub struct Asked {
-    pub reads: u32,
-    pub place: Place,
+// How many copies of a hash's fingerprint there are, and how many buckets were read to tell.
+pub fn count(image: &[u8], hash: u64) -> Tally
+    ensures { λ r. ⌜ countedOf r ≡ countOf layout1 (now (image .entry)) hash ⌝ }
+{
+    lookup::count::count(image, hash)
 }
 
-// What an ask gives.
-pub enum Answer {
-    Accepted(Asked),
-    Refused(Refusal),
+// The members from front bucket `start` on into `out`: how many, and the next bucket.
+pub fn page(image: &[u8], start: usize, out: &mut [u64]) -> Paged
+    ensures { λ r. ⌜ Pages (now (image .entry)) start (now (out .entry)) r (now (out .exit)) ⌝ }
+{
+    listing::page::page(image, start, out)
 }
 
-// "Count gives copies and reads."
-pub struct Counted {
-    pub copies: usize,
-    pub reads: u32,
+// Whether the bytes are a catalogue.
+pub fn check(image: &[u8]) -> Done
+    ensures { λ r. ⌜ doneOf r ≡ checkOf layout1 (now (image .entry)) ⌝ }
+{
+    validation::check::check(image)
 }
 
-// What a count gives.
-pub enum Tally {
-    Accepted(Counted),
-    Refused(Refusal),
-}
-
-// What a hash names in an image: the image's size B, the front bucket f and the key of mini-bucket and tag.
-pub(crate) struct Target {
-    pub size: usize,
-    pub front: Front,
-    pub key: u32,
-}
-
-// The target of a hash, or that no image has this length.
-pub(crate) enum Located {
-    At(Target),
-    Wrong,
-}
-
-// What a page gives: how many, and "the next bucket".
-pub enum Paged {
-    Accepted(usize, usize),
-    Refused(Refusal),
-}
-
-// An image's size B, or that no image has this length.
-pub(crate) enum Size {
-    Buckets(usize),
-    Wrong,
-}
-
-// What reading a backyard bucket finds: how many members it holds, and how many of them are below the one that is sought.
-pub(crate) struct Ranked {
-    pub members: usize,
-    pub below: usize,
-}
-
-// What reading both backyard buckets of a front bucket finds, or the table number of the first that is unsound.
-pub(crate) enum Behind {
-    Members(Ranked, Ranked),
-    Unsound(usize),
-}
-
-// What seeking a member in a backyard bucket finds: its lowest slot, or the table number of a bucket that is unsound.
-pub(crate) enum Sought {
-    At(usize),
-    Absent,
-    Unsound(usize),
-}
-
-// A member that leaves the backyard, from First(f) or from Second(f): its key, and its slot in that backyard bucket; or that none does.
-pub(crate) enum Leaving {
-    First(u32, usize),
-    Second(u32, usize),
-    Nothing,
-}
-
-// How many members a front bucket has with those behind it, or the table number of the first bucket that is unsound.
-pub(crate) enum Held {
-    Members(usize),
-    Unsound(usize),
-}
-
-// How far a run of whole buckets goes: the next bucket, or the table number of one that is unsound.
-pub(crate) enum Reach {
-    Next(usize),
-    Unsound(usize),
-}
-
-// The table number of the first bucket that fails a test, or that none does.
-pub(crate) enum Fault {
-    At(usize),
-    Nowhere,
-}
-
-// How many keys of two lists share a front bucket, the first of each, and how many leave it.
-pub(crate) struct Split {
-    pub kept: usize,
-    pub taken: usize,
-    pub gone: usize,
+// The members of two images into a third.
+pub fn merge<'a>(first: &'a [u8], second: &'a [u8], target: &mut [u8]) -> Done
+    ensures { λ r. ⌜ Merges (now (first .entry)) (now (second .entry)) (now (target .entry)) r (now (target .exit)) ⌝ }
+{
+    merging::merge::merge(first, second, target)
 }

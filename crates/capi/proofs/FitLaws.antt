@@ -16,7 +16,7 @@ use Rattle.crumbmap.specs.Fingerprints.{frontOf, keyOf}
 use Rattle.crumbmap.specs.CrumbMap.{firstBucket, secondBucket, firstCrumb, secondCrumb, bucketOf}
 use Rattle.crumbmap.proofs.CrumbMapLaws.{bucketOf-lt}
 use Rattle.crumbmap.proofs.FingerprintLaws.{frontOf-lt}
-use Rattle.minifilter.specs.Buckets.{carrying, frontMembers, backMembers}
+use Rattle.buckets.specs.Buckets.{carrying, frontMembers, backMembers}
 use Rattle.machine.specs.Results.{Result, accepted, refused, andThen, orUnsound, orRefused}
 use Rattle.machine.specs.Images.{sized, sizeOf, frontAt, backAt, bucketAt}
 use Rattle.machine.specs.Bags.{has, fromFirst}

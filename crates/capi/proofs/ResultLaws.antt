@@ -11,11 +11,11 @@ use Rattle.machine.specs.Results.{Result, accepted, refused, andThen}
 use Rattle.machine.specs.Machine.{found}
 use Rattle.machine.specs.Checks.{unless}
 use Rattle.machine.specs.Pages.{Run}
-use Rattle.breadcrumb.specs.Answers.{doneOf, blank, pagedOf, extentOf}
-use Rattle.breadcrumb.specs.declared.Done.{Done}
-use Rattle.breadcrumb.specs.declared.Paged.{Paged}
+use Rattle.answers.specs.Answers.{doneOf, blank, pagedOf, extentOf}
+use Rattle.answers.specs.declared.Done.{Done}
+use Rattle.answers.specs.declared.Paged.{Paged}
 use Rattle.answers.specs.Pairs.{saidOf}
-use Rattle.answers.specs.declared.Said.{Said}
+use Rattle.answers.specs.declared.pairs.Said.{Said}
 use Rattle.answers.proofs.PairLaws.{said-mapped}
 use Rattle.capi.specs.Packing.{Within, taken, barred, Packs, nothing, extentWord, runWord}
 

@@ -5,7 +5,7 @@ use Rattle.machine.specs.Results.{Result, accepted, refused}
 use Rattle.machine.specs.Machine.{Asked, Counted, Place, nowhere, front, first, second}
 use Rattle.machine.specs.Pages.{Run}
 use Rattle.answers.specs.Pairs.{saidOf}
-use Rattle.answers.specs.declared.Said.{Said}
+use Rattle.answers.specs.declared.pairs.Said.{Said}
 
 abbrev pub pack : Said → ℕ
 pack s = s .number * 2 ^ 56 + s .value

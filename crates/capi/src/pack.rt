@@ -1,15 +1,15 @@
 // Answers as numbers for C, and a number with its value packed.
 
-use answers::Said;
-use answers::refused;
-use breadcrumb::Answer;
-use breadcrumb::Done;
-use breadcrumb::Paged;
-use breadcrumb::Place;
-use breadcrumb::Tally;
+use answers::Answer;
+use answers::Done;
+use answers::Paged;
+use answers::Place;
+use answers::Tally;
+use answers::pairs::Said;
+use answers::pairs::refused;
 ghost use mathlib.Core.Path.{_≡_};
 ghost use Prim.Native.Nat.{_^_, _<_};
-ghost use Rattle.breadcrumb.specs.Answers.{doneOf, placeOf, askedOf, countedOf, pagedOf};
+ghost use Rattle.answers.specs.Answers.{doneOf, placeOf, askedOf, countedOf, pagedOf};
 ghost use Rattle.answers.specs.Pairs.{saidOf};
 ghost use Rattle.capi.specs.Packing.{pack, Packs, Within, nothing, placeWord, askWord, countWord, extentWord};
 

@@ -12,17 +12,17 @@ use Rattle.machine.specs.Results.{Result, accepted, refused, andThen, number}
 use Rattle.machine.specs.Machine as M
 use Rattle.machine.specs.Pages.{Run}
 use Rattle.machine.specs.Calls.{freshOf, insertOf, deleteOf, askOf, countOf, pageOf, mergeOf, written, imageOf, targetOf}
-use Rattle.breadcrumb.specs.Answers.{doneOf, changeOf, askedOf, countedOf, pagedOf, placeOf, refusal, blank, answerOf, extentOf}
-use Rattle.breadcrumb.specs.declared.Refusal.{Refusal}
-use Rattle.breadcrumb.specs.declared.Refusal.the-variants as R
-use Rattle.breadcrumb.specs.declared.Counted.{Counted}
-use Rattle.breadcrumb.specs.declared.Tally.{Tally}
-use Rattle.breadcrumb.specs.declared.Tally.the-variants as T
-use Rattle.breadcrumb.specs.declared.Asked.{Asked}
-use Rattle.breadcrumb.specs.declared.Answer.{Answer}
-use Rattle.breadcrumb.specs.declared.Answer.the-variants as A
-use Rattle.breadcrumb.specs.declared.Place.{Place}
-use Rattle.breadcrumb.specs.declared.Place.the-variants as P
+use Rattle.answers.specs.Answers.{doneOf, changeOf, askedOf, countedOf, pagedOf, placeOf, refusal, blank, answerOf, extentOf}
+use Rattle.answers.specs.declared.Refusal.{Refusal}
+use Rattle.answers.specs.declared.Refusal.the-variants as R
+use Rattle.answers.specs.declared.Counted.{Counted}
+use Rattle.answers.specs.declared.Tally.{Tally}
+use Rattle.answers.specs.declared.Tally.the-variants as T
+use Rattle.answers.specs.declared.Asked.{Asked}
+use Rattle.answers.specs.declared.Answer.{Answer}
+use Rattle.answers.specs.declared.Answer.the-variants as A
+use Rattle.answers.specs.declared.Place.{Place}
+use Rattle.answers.specs.declared.Place.the-variants as P
 use Rattle.history.specs.Histories as H
 use Rattle.history.specs.Histories.{Call, History, Fits, Started, blocks, bytesAfter, numberOf, imageAfter}
 use Rattle.history.specs.Ledgers.{ledger, smaller}

@@ -8,14 +8,14 @@ use Rattle.multiset.specs.Multisets.{copies, ascending}
 use Rattle.crumbmap.specs.Layouts.{layout1}
 use Rattle.crumbmap.specs.Fingerprints.{frontOf, keyOf}
 use Rattle.machine.specs.Calls.{askOf, countOf}
-use Rattle.breadcrumb.specs.Answers.{askedOf, countedOf}
-use Rattle.breadcrumb.specs.declared.Counted.{Counted}
-use Rattle.breadcrumb.specs.declared.Tally.{Tally}
-use Rattle.breadcrumb.specs.declared.Tally.the-variants as T
-use Rattle.breadcrumb.specs.declared.Asked.{Asked}
-use Rattle.breadcrumb.specs.declared.Answer.{Answer}
-use Rattle.breadcrumb.specs.declared.Answer.the-variants as A
-use Rattle.breadcrumb.specs.declared.Place.the-variants as P
+use Rattle.answers.specs.Answers.{askedOf, countedOf}
+use Rattle.answers.specs.declared.Counted.{Counted}
+use Rattle.answers.specs.declared.Tally.{Tally}
+use Rattle.answers.specs.declared.Tally.the-variants as T
+use Rattle.answers.specs.declared.Asked.{Asked}
+use Rattle.answers.specs.declared.Answer.{Answer}
+use Rattle.answers.specs.declared.Answer.the-variants as A
+use Rattle.answers.specs.declared.Place.the-variants as P
 use Rattle.history.specs.Histories.{Call, History, Fits, blocks}
 use Rattle.history.specs.Ledgers.{fingerprintOf, ledger, smaller}
 use Rattle.history.specs.Walks.{FullWalk}

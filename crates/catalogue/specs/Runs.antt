@@ -7,12 +7,12 @@ use lib.ListN.{length}
 use Rattle.crumbmap.specs.Layouts.{layout1}
 use Rattle.machine.specs.Results.{number}
 use Rattle.machine.specs.Calls.{askOf, countOf}
-use Rattle.breadcrumb.specs.Answers.{doneOf, changeOf, askedOf, countedOf, pagedOf, Freshens, Inserts, Deletes, Pages, Merges}
-use Rattle.breadcrumb.specs.declared.Done.{Done}
-use Rattle.breadcrumb.specs.declared.Changed.{Changed}
-use Rattle.breadcrumb.specs.declared.Answer.{Answer}
-use Rattle.breadcrumb.specs.declared.Tally.{Tally}
-use Rattle.breadcrumb.specs.declared.Paged.{Paged}
+use Rattle.answers.specs.Answers.{doneOf, changeOf, askedOf, countedOf, pagedOf, Freshens, Inserts, Deletes, Pages, Merges}
+use Rattle.answers.specs.declared.Done.{Done}
+use Rattle.answers.specs.declared.Changed.{Changed}
+use Rattle.answers.specs.declared.Answer.{Answer}
+use Rattle.answers.specs.declared.Tally.{Tally}
+use Rattle.answers.specs.declared.Paged.{Paged}
 use Rattle.history.specs.Histories as H
 use Rattle.history.specs.Histories.{Call, History, Fits}
 

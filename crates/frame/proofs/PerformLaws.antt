@@ -11,10 +11,10 @@ use borrow.Author.Tests.{eq-eqb, ne-eqb, le-leb, lt-leb}
 use Rattle.machine.specs.Results.{Result, accepted, refused, number}
 use Rattle.machine.specs.Pages.{Run}
 use Rattle.machine.specs.Calls.{outputOf}
-use Rattle.breadcrumb.specs.Answers.{refusal, extentOf}
-use Rattle.breadcrumb.specs.declared.Refusal.{Refusal}
+use Rattle.answers.specs.Answers.{refusal, extentOf}
+use Rattle.answers.specs.declared.Refusal.{Refusal}
 use Rattle.answers.specs.Pairs.{saidOf, refusalOf, itself}
-use Rattle.answers.specs.declared.Said.{Said}
+use Rattle.answers.specs.declared.pairs.Said.{Said}
 use Rattle.answers.proofs.PairLaws.{said-refusal, refusal-number}
 use Rattle.frame.specs.Texts.{over}
 use Rattle.frame.specs.Frames.{line, told, entryLines, listText, frameOf, textOf, imageAfter, Performs, fit, Answers}

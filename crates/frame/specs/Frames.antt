@@ -8,13 +8,13 @@ use mathlib.Core.Option.{Option, none, some, bind}
 use lib.ListN.{length, take, drop}
 use lib.Dec.{eqb, leb}
 use Rattle.crumbmap.specs.Layouts.{layout1}
-use Rattle.minifilter.specs.Buckets.{given}
+use Rattle.buckets.specs.Buckets.{given}
 use Rattle.machine.specs.Results.{Result, accepted, refused}
 use Rattle.machine.specs.Machine.{Asked, Counted, Place, nowhere, front, first, second}
 use Rattle.machine.specs.Pages.{Run}
 use Rattle.machine.specs.Calls.{insertOf, deleteOf, askOf, countOf, pageOf, imageOf}
 use Rattle.answers.specs.Pairs.{saidOf, answerValue}
-use Rattle.answers.specs.declared.Said.{Said}
+use Rattle.answers.specs.declared.pairs.Said.{Said}
 use Rattle.frame.specs.Texts.{hex, unhex, over}
 use Rattle.frame.specs.declared.Frame.{Frame}
 use Rattle.frame.specs.declared.Frame.the-variants.{Insert, Delete, Ask, Count, List as Listing, Malformed}

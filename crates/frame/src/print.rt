@@ -1,7 +1,7 @@
 // The lines that the program prints, written into a lent output; what they do not cover keeps its content.
 
 use crate::text::put_hex;
-use answers::Said;
+use answers::pairs::Said;
 ghost use mathlib.Core.Path.{_≡_};
 ghost use Prim.Native.Nat.{_+_, _*_, _≤_};
 ghost use lib.ListN.{length};

@@ -4,7 +4,7 @@ mod lines;
 
 use crate::lines::answer;
 use crate::lines::take_in;
-use breadcrumb::fresh::fresh;
+use breadcrumb::fresh;
 use libc::STDIN_FILENO;
 ghost use mathlib.Core.Path.{_≡_};
 ghost use Prim.Native.Nat.{_≤_};

@@ -15,7 +15,7 @@ use Rattle.multiset.proofs.MultisetLaws.{hit, hit-same, hit-other}
 use Rattle.crumbmap.specs.Layouts.{Layout, keys, fronts}
 use Rattle.crumbmap.specs.Fingerprints.{frontOf, keyOf, fingerprint}
 use Rattle.crumbmap.proofs.FingerprintLaws.{frontOf-lt, keyOf-lt, fingerprint-lt, fingerprint-unique}
-use Rattle.minifilter.specs.Buckets.{Fits64}
+use Rattle.buckets.specs.Buckets.{Fits64}
 use Rattle.machine.specs.Results.{Result, accepted, refused, number}
 use Rattle.machine.specs.Images.{sizeOf}
 use Rattle.machine.specs.Machine.{full, insertAt, deleteAt, Place, nowhere}

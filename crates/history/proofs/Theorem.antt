@@ -7,8 +7,8 @@ use Prim.Native.Nat.{ℕ}
 use mathlib.Core.List.{List}
 use lib.ListN.{length}
 use Rattle.crumbmap.specs.Layouts.{Layout, layout1}
-use Rattle.minifilter.specs.Buckets.{Fits64}
-use Rattle.minifilter.proofs.BucketLaws.{fits1}
+use Rattle.buckets.specs.Buckets.{Fits64}
+use Rattle.buckets.proofs.BucketLaws.{fits1}
 use Rattle.machine.specs.Results.{accepted, number}
 use Rattle.machine.specs.Calls.{checkOf, mergeOf}
 use Rattle.history.specs.Histories.{History, Started, blocks, bytesAfter}

@@ -10,7 +10,7 @@ use lib.Dec.{ltb, T}
 use borrow.Author.Tests.{ltb-true, ltb-false}
 use Rattle.multiset.specs.Multisets.{copies, ascending}
 use Rattle.crumbmap.specs.Layouts.{Layout, keys, fronts}
-use Rattle.minifilter.specs.Buckets.{Fits64}
+use Rattle.buckets.specs.Buckets.{Fits64}
 use Rattle.machine.specs.Results.{accepted}
 use Rattle.machine.specs.Pages.{Run, pageFrom}
 use Rattle.machine.specs.Calls.{pageOf}

@@ -11,7 +11,7 @@ use mir.Facts.{and-yes, yes-and}
 use borrow.Author.Tests.{ltb-true, ltb-false, lt-ltb, le-ltb, eqb-true, eqb-false, eq-eqb, ne-eqb}
 use Rattle.multiset.specs.Multisets.{copies, atLeast, ascending, Below}
 use Rattle.multiset.proofs.MultisetLaws.{hit, hit-other, copies-cons, copies-added, length-added, ascending-added, below-added}
-use Rattle.minifilter.specs.Buckets.{carrying}
+use Rattle.buckets.specs.Buckets.{carrying}
 use Rattle.machine.specs.Bags.{addedAll, has, fromFirst}
 
 -- the first member carries the crumb, or not

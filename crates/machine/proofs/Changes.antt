@@ -12,8 +12,8 @@ use Rattle.multiset.proofs.MultisetLaws.{hit, hit-other, copies-added, copies-r
 use Rattle.crumbmap.specs.Layouts.{Layout, keys, fronts, backyards}
 use Rattle.crumbmap.specs.CrumbMap.{bucketOf, crumbOf}
 use Rattle.crumbmap.proofs.CrumbMapLaws.{bucketOf-lt, crumbOf-lt, front-unique, choice-unique}
-use Rattle.minifilter.specs.Buckets.{Fits64, frontBytes, backBytes, FrontList, BackList}
-use Rattle.minifilter.proofs.BucketLaws.{length-frontBytes, length-backBytes, frontMembers-frontBytes, backMembers-backBytes}
+use Rattle.buckets.specs.Buckets.{Fits64, frontBytes, backBytes, FrontList, BackList}
+use Rattle.buckets.proofs.BucketLaws.{length-frontBytes, length-backBytes, frontMembers-frontBytes, backMembers-backBytes}
 use Rattle.machine.specs.Results.{accepted}
 use Rattle.machine.specs.Images.{lengthOf, frontAt, backAt, putFront, putBack}
 use Rattle.machine.proofs.BagLaws.{hit-alike}

@@ -16,8 +16,8 @@ use Rattle.multiset.proofs.MultisetLaws.{hit-same, hit-other, copies-cons}
 use Rattle.crumbmap.specs.Layouts.{Layout, fronts, backyards}
 use Rattle.crumbmap.specs.CrumbMap.{bucketOf, crumbOf, home}
 use Rattle.crumbmap.proofs.CrumbMapLaws.{home-lt, home-bucketOf, bucketOf-home, bucketOf-lt, crumbOf-lt}
-use Rattle.minifilter.specs.Buckets.{Fits64, isSome, valid, frontMembers, backMembers, FrontList, BackList}
-use Rattle.minifilter.proofs.BucketLaws.{frontMembers-list, backMembers-list}
+use Rattle.buckets.specs.Buckets.{Fits64, isSome, valid, frontMembers, backMembers, FrontList, BackList}
+use Rattle.buckets.proofs.BucketLaws.{frontMembers-list, backMembers-list}
 use Rattle.machine.specs.Results.{Result, accepted, refused, orUnsound}
 use Rattle.machine.specs.Images.{sizeOf, bucketAt, frontAt, backAt}
 use Rattle.machine.specs.Checks.{

@@ -12,7 +12,7 @@ use Rattle.multiset.specs.Multisets.{added, removed, copies, largest}
 use Rattle.multiset.proofs.MultisetLaws.{copies-cons, copies-added, copies-removed, length-added, length-removed, below-copies, largest-max, copies-largest, head-least}
 use Rattle.crumbmap.specs.Layouts.{Layout, keys, fronts}
 use Rattle.crumbmap.specs.CrumbMap.{bucketOf, crumbOf}
-use Rattle.minifilter.specs.Buckets.{Fits64, FrontList}
+use Rattle.buckets.specs.Buckets.{Fits64, FrontList}
 use Rattle.machine.specs.Results.{accepted, refused}
 use Rattle.machine.specs.Images.{frontAt, backAt, putFront, putBack}
 use Rattle.machine.specs.Bags.{fromFirst}

@@ -12,7 +12,7 @@ use mir.Facts.{and-yes}
 use borrow.Author.Tests.{eq-eqb, le-leb, ltb-true, ltb-false}
 use Rattle.multiset.specs.Multisets.{Below}
 use Rattle.crumbmap.specs.Layouts.{Layout, fronts, backyards}
-use Rattle.minifilter.specs.Buckets.{frontBytes, backBytes}
+use Rattle.buckets.specs.Buckets.{frontBytes, backBytes}
 use Rattle.machine.specs.Images.{lengthOf, sizeOf, bucketAt, put, repeated, emptyImage}
 
 -- a bucket of a list's first part, and one past it

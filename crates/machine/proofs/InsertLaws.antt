@@ -13,7 +13,7 @@ use Rattle.multiset.specs.Multisets.{added, removed, copies, largest, Below}
 use Rattle.multiset.proofs.MultisetLaws.{hit, copies-added, copies-removed, length-added, length-removed, ascending-added, ascending-removed, below-added, below-removed, below-copies, largest-added, largest-max, copies-largest}
 use Rattle.crumbmap.specs.Layouts.{Layout, keys, fronts}
 use Rattle.crumbmap.specs.CrumbMap.{bucketOf, crumbOf}
-use Rattle.minifilter.specs.Buckets.{Fits64, FrontList}
+use Rattle.buckets.specs.Buckets.{Fits64, FrontList}
 use Rattle.machine.specs.Results.{accepted, refused}
 use Rattle.machine.specs.Images.{frontAt, backAt, putFront, putBack}
 use Rattle.machine.specs.Machine.{insertAt, full}

@@ -8,7 +8,7 @@ use mathlib.Core.List.{List, []}
 use mathlib.Core.Option.{some}
 use native.Mathlib.Omega.{arith}
 use lib.ListN.{length}
-use Rattle.minifilter.specs.Buckets.{FrontList, BackList}
+use Rattle.buckets.specs.Buckets.{FrontList, BackList}
 use Rattle.multiset.specs.Multisets.{copies, largest}
 use Rattle.multiset.proofs.MultisetLaws.{hit}
 use Rattle.crumbmap.specs.Layouts.{Layout, fronts, backyards}

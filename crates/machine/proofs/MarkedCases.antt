@@ -7,7 +7,7 @@ use Rattle.multiset.specs.Multisets.{copies}
 use Rattle.crumbmap.specs.Layouts.{layout1, fronts}
 use Rattle.crumbmap.specs.Fingerprints.{frontOf, miniOf, tagOf, keyOf, fingerprint}
 use Rattle.crumbmap.specs.CrumbMap.{stride, firstBucket, firstCrumb, secondBucket, secondCrumb, firstHome, secondHome, home}
-use Rattle.minifilter.specs.Words.{wordFrom}
+use Rattle.buckets.specs.Words.{wordFrom}
 
 -- (f, m, r) of hash k
 parts : ℕ → ℕ → List ℕ

@@ -13,7 +13,7 @@ use Rattle.multiset.proofs.MultisetLaws.{hit, hit-same, hit-other, length-added
 use Rattle.crumbmap.specs.Layouts.{Layout, keys, fronts}
 use Rattle.crumbmap.specs.CrumbMap.{home, bucketOf, crumbOf}
 use Rattle.crumbmap.proofs.CrumbMapLaws.{crumbOf-lt, home-bucketOf}
-use Rattle.minifilter.specs.Buckets.{isSome, valid, FrontList, BackList}
+use Rattle.buckets.specs.Buckets.{isSome, valid, FrontList, BackList}
 
 pub hit-of : (x y : ℕ) → x ≡ y → hit x y ≡ 1
 hit-of x y p = rw p (hit-same y)

@@ -15,8 +15,8 @@ use Rattle.multiset.proofs.MultisetLaws.{copies-cons}
 use Rattle.crumbmap.specs.Layouts.{Layout, keys, fronts, backyards}
 use Rattle.crumbmap.specs.CrumbMap.{bucketOf}
 use Rattle.crumbmap.proofs.CrumbMapLaws.{bucketOf-lt}
-use Rattle.minifilter.specs.Buckets.{Fits64, valid, frontBytes, backBytes, FrontList, BackList}
-use Rattle.minifilter.proofs.BucketLaws.{length-frontBytes, length-backBytes, frontMembers-frontBytes, backMembers-backBytes}
+use Rattle.buckets.specs.Buckets.{Fits64, valid, frontBytes, backBytes, FrontList, BackList}
+use Rattle.buckets.proofs.BucketLaws.{length-frontBytes, length-backBytes, frontMembers-frontBytes, backMembers-backBytes}
 use Rattle.machine.specs.Results.{accepted, refused, number}
 use Rattle.machine.specs.Images.{frontAt, backAt, emptyImage}
 use Rattle.machine.specs.Machine.{insertAt, membersAt}

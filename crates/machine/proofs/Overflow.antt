@@ -8,7 +8,7 @@ use Rattle.multiset.specs.Multisets.{copies, ascending, Below}
 use Rattle.crumbmap.specs.Layouts.{Layout, keys, fronts}
 use Rattle.crumbmap.specs.CrumbMap.{bucketOf, crumbOf}
 use Rattle.crumbmap.proofs.CrumbMapLaws.{bucketOf-lt, crumbOf-lt}
-use Rattle.minifilter.specs.Buckets.{carrying, BackList}
+use Rattle.buckets.specs.Buckets.{carrying, BackList}
 use Rattle.machine.specs.Results.{accepted}
 use Rattle.machine.specs.Images.{backAt}
 use Rattle.machine.specs.Machine.{overflow}

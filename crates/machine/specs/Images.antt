@@ -6,7 +6,7 @@ use mathlib.Core.Option.{Option, none, some}
 use lib.ListN.{length, take, drop}
 use lib.Dec.{leb, eqb}
 use Rattle.crumbmap.specs.Layouts.{Layout, fronts, backyards}
-use Rattle.minifilter.specs.Buckets.{frontMembers, backMembers, frontBytes, backBytes}
+use Rattle.buckets.specs.Buckets.{frontMembers, backMembers, frontBytes, backBytes}
 use Rattle.machine.specs.Results.{Result, orUnsound, orRefused}
 
 -- "a lent byte slice of 576 × B + 448 bytes"

@@ -9,7 +9,7 @@ use lib.Dec.{leb, ltb, eqb}
 use Rattle.multiset.specs.Multisets.{added, removed, copies, slotOf, largest}
 use Rattle.crumbmap.specs.Layouts.{Layout}
 use Rattle.crumbmap.specs.CrumbMap.{firstBucket, secondBucket, firstCrumb, secondCrumb, bucketOf, crumbOf}
-use Rattle.minifilter.specs.Buckets.{carrying}
+use Rattle.buckets.specs.Buckets.{carrying}
 use Rattle.machine.specs.Results.{Result, accepted, refused, andThen}
 use Rattle.machine.specs.Images.{frontAt, backAt, putFront, putBack}
 use Rattle.machine.specs.Bags.{addedAll, has, fromFirst}

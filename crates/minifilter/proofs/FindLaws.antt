@@ -4,18 +4,7 @@ use mathlib.Core.Path.{_≡_, refl, sym, ap, ap₂, _∙_}
 use Prim.Native.Nat.{ℕ, zero, suc, _+_, _*_, _/_, _%_, _-_, _^_, _≤_, _<_}
 use mathlib.Core.Bool.{Bool, true, false}
 use mathlib.Core.List.{List, [], _∷_, _++_}
-use native.Mathlib.Nat.{
-  zero-div,
-  mul-le-mul-right,
-  div-lt-iff-lt-mul,
-  lt-of-lt-of-le,
-  pow-le-pow-right,
-  div-add-mod',
-  div-mul-le-self,
-  le-div-iff-mul-le,
-  div-div-eq-div-mul,
-  suc-mul,
-}
+use native.Mathlib.Nat.{zero-div, mul-le-mul-right, div-lt-iff-lt-mul, lt-of-lt-of-le, pow-le-pow-right, div-add-mod', div-mul-le-self, le-div-iff-mul-le, div-div-eq-div-mul, suc-mul}
 use native.Mathlib.Decide.{decLe, ℕ-discrete}
 use native.Mathlib.Omega.{arith, by-contra, both-ways}
 use lib.ListN.{length, take, drop, getD, replicate, List·getD-append}
@@ -25,27 +14,18 @@ use lib.Dec.{T, lit<, lit≤}
 use Rattle.multiset.specs.Multisets.{ascending, below, copies, Below}
 use Rattle.multiset.specs.Digits.{value, spread, grouped, padded, highs, lows}
 use Rattle.crumbmap.specs.Layouts.{layout1, keys, wordBytes}
-use Rattle.minifilter.specs.Words.{wordFrom}
-use Rattle.minifilter.specs.Buckets.{slotBytes, frontBytes, backBytes, FrontList, BackList}
-use Rattle.minifilter.specs.Readings.{SoundFront, SoundBack, frontList, backList, minisOf, listOf}
+use Rattle.buckets.specs.Words.{wordFrom, minisOf, listOf}
+use Rattle.buckets.specs.Buckets.{slotBytes, frontBytes, backBytes, FrontList, BackList}
+use Rattle.minifilter.specs.Readings.{SoundFront, SoundBack, frontList, backList}
 use Rattle.minifilter.specs.Slots.{slotCount}
-use Rattle.minifilter.specs.Edits.{Sound, membersOf, spanOf, lowAt, Scanned}
+use Rattle.minifilter.specs.Searches.{Sound, membersOf, spanOf, lowAt, Scanned}
 use Rattle.multiset.proofs.MultisetLaws.{below-le-length, below-smaller, below-other, below-suc}
 use Rattle.multiset.proofs.SlotLaws.{slot-below, slot-above}
-use Rattle.multiset.proofs.DigitLaws.{
-  ascending-highs,
-  below-highs,
-  below-lows,
-  below-padded,
-  length-highs,
-  length-lows,
-  length-padded,
-  spread-grouped,
-}
-use Rattle.minifilter.proofs.ElementLaws.{grouped-at}
-use Rattle.minifilter.proofs.WordLaws.{Run, Coded, coded-word, minis-coded, ones-coded, coded-lt}
-use Rattle.minifilter.proofs.SlotBytes.{run-highs, length-slotBytes, wordIn-slotBytes, tagsIn-slotBytes}
-use Rattle.minifilter.proofs.BucketLaws.{fits1, frontMembers-list, backMembers-list, frontBytes-frontMembers, backBytes-backMembers}
+use Rattle.multiset.proofs.DigitLaws.{ascending-highs, below-highs, below-lows, below-padded, length-highs, length-lows, length-padded, spread-grouped}
+use Rattle.buckets.proofs.ElementLaws.{grouped-at}
+use Rattle.buckets.proofs.WordLaws.{Run, Coded, coded-word, minis-coded, ones-coded, coded-lt}
+use Rattle.buckets.proofs.SlotBytes.{run-highs, length-slotBytes, wordIn-slotBytes, tagsIn-slotBytes}
+use Rattle.buckets.proofs.BucketLaws.{fits1, frontMembers-list, backMembers-list, frontBytes-frontMembers, backBytes-backMembers}
 
 -- ---- lists
 

@@ -17,16 +17,17 @@ use lib.Dec.{T, lit<}
 use borrow.Author.Tests.{eq-eqb, ne-eqb, eqb-true, eqb-false}
 use Rattle.multiset.specs.Multisets.{largest, ascending, below, Below}
 use Rattle.multiset.specs.Digits.{value, spread, grouped, highs}
-use Rattle.minifilter.specs.Select.{selectIn}
-use Rattle.minifilter.specs.Buckets.{carrying}
-use Rattle.minifilter.specs.Readings.{minisOf, firstOf}
+use Rattle.words.specs.Select.{selectIn}
+use Rattle.buckets.specs.Buckets.{carrying}
+use Rattle.buckets.specs.Words.{minisOf}
+use Rattle.minifilter.specs.Readings.{firstOf}
 use Rattle.minifilter.specs.Slots.{slotMinis}
-use Rattle.minifilter.specs.Edits.{spanOf, wantedAt, chosen}
+use Rattle.minifilter.specs.Searches.{spanOf, wantedAt, chosen}
 use Rattle.minifilter.specs.declared.Carried.the-variants.{Key}
 use Rattle.multiset.proofs.SlotLaws.{slot-holds, holds-from, holds-copy}
 use Rattle.multiset.proofs.DigitLaws.{below-spread, length-highs}
-use Rattle.minifilter.proofs.WordLaws.{Run, Coded, coded-run}
-use Rattle.minifilter.proofs.GapLaws.{gaps, gap-place, gap-next, gap-below, gap-some}
+use Rattle.buckets.proofs.WordLaws.{Run, Coded, coded-run}
+use Rattle.buckets.proofs.GapLaws.{gaps, gap-place, gap-next, gap-below, gap-some}
 use Rattle.minifilter.proofs.PassLaws.{length-slotMinis, slotMinis-run}
 use Rattle.minifilter.proofs.FindLaws.{Held, getD-highs}
 

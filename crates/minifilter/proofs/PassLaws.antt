@@ -18,12 +18,11 @@ use Rattle.multiset.specs.Multisets.{ascending, atLeast, below, Below}
 use Rattle.multiset.specs.Digits.{grouped, joined}
 use Rattle.multiset.proofs.MultisetLaws.{below-smaller, below-other}
 use Rattle.multiset.proofs.DigitLaws.{length-spread, length-grouped, length-joined, below-spread}
-use Rattle.minifilter.specs.Words.{minisFrom}
-use Rattle.minifilter.specs.Readings.{minisOf}
+use Rattle.buckets.specs.Words.{minisFrom, minisOf}
 use Rattle.minifilter.specs.Slots.{slotCount, slotCrumbs, memberOf, membersOf, slotMinis, slotMembers}
-use Rattle.minifilter.proofs.WordLaws.{Run, Coded, minis-ones, coded-minis, coded-run}
-use Rattle.minifilter.proofs.ElementLaws.{grouped-at}
-use Rattle.minifilter.proofs.GapLaws.{gaps, gaps-word, gap-place, gap-next, gap-below, gap-some}
+use Rattle.buckets.proofs.WordLaws.{Run, Coded, minis-ones, coded-minis, coded-run}
+use Rattle.buckets.proofs.ElementLaws.{grouped-at}
+use Rattle.buckets.proofs.GapLaws.{gaps, gaps-word, gap-place, gap-next, gap-below, gap-some}
 
 -- ---- joined lists
 

@@ -19,37 +19,16 @@ use Rattle.crumbmap.specs.Layouts.{layout1}
 use Rattle.crumbmap.specs.CrumbMap.{home}
 use Rattle.crumbmap.specs.Marks.{Marks, bitOf}
 use Rattle.crumbmap.proofs.MarkLaws.{ones-in}
-use Rattle.minifilter.specs.Words.{minisFrom}
-use Rattle.minifilter.specs.Buckets.{given, isSome, valid, slotKeys, frontMembers, backMembers}
-use Rattle.minifilter.specs.Readings.{readingOf, minisOf}
-use Rattle.minifilter.specs.Slots.{
-  slotCount,
-  slotCrumbs,
-  membersOf,
-  endOf,
-  slotMinis,
-  slotMembers,
-  inOrder,
-  orderOf,
-  slotList,
-  marked,
-}
+use Rattle.buckets.specs.Words.{minisFrom, minisOf}
+use Rattle.buckets.specs.Buckets.{given, isSome, valid, slotKeys, frontMembers, backMembers}
+use Rattle.minifilter.specs.Readings.{readingOf}
+use Rattle.minifilter.specs.Slots.{slotCount, slotCrumbs, membersOf, endOf, slotMinis, slotMembers, inOrder, orderOf, slotList, marked}
 use Rattle.minifilter.specs.declared.Order.{Order}
 use Rattle.minifilter.specs.declared.Order.the-variants as O
 use Rattle.minifilter.specs.declared.Reading.{Reading}
 use Rattle.minifilter.specs.declared.Reading.the-variants.{Members, Unsound}
-use Rattle.minifilter.proofs.WordLaws.{minis-none}
-use Rattle.minifilter.proofs.PassLaws.{
-  length-joined-min,
-  ascending-zero,
-  run-below,
-  minis-word,
-  minisOf-run,
-  slotCount-le,
-  length-slotCrumbs,
-  below-slotCrumbs,
-  length-membersOf,
-}
+use Rattle.buckets.proofs.WordLaws.{minis-none}
+use Rattle.minifilter.proofs.PassLaws.{length-joined-min, ascending-zero, run-below, minis-word, minisOf-run, slotCount-le, length-slotCrumbs, below-slotCrumbs, length-membersOf}
 
 -- ---- the slots in use and the others
 

@@ -1,7 +1,4 @@
--- One bucket: the word over mini-buckets, select, the 64 bytes of a front and of a backyard bucket, both ways, and what the code's contracts cite.
-pub mod Words
-pub mod Select
-pub mod Buckets
+-- One bucket as the contracts of its reader and its search speak of it.
 pub mod Readings
 pub mod Slots
-pub mod Edits
+pub mod Searches

@@ -7,26 +7,17 @@ use lib.ListN.{length, drop}
 use Rattle.multiset.specs.Multisets.{below}
 use Rattle.multiset.specs.Digits.{spread, joined}
 use Rattle.crumbmap.specs.Layouts.{layout1}
-use Rattle.minifilter.specs.Words.{minisFrom}
-use Rattle.minifilter.specs.Buckets.{slotKeys, frontMembers, backMembers}
+use Rattle.buckets.specs.Buckets.{slotKeys, frontMembers, backMembers}
 use Rattle.minifilter.specs.declared.Reading.{Reading}
 use Rattle.minifilter.specs.declared.Reading.the-variants.{Members, Unsound}
 use Rattle.minifilter.specs.declared.Carried.{Carried}
 use Rattle.minifilter.specs.declared.Carried.the-variants.{Key, Nothing}
+use Rattle.buckets.specs.Words.{listOf}
 
 -- "its member count, or unsound", and how many members are below x
 abbrev pub readingOf : ℕ → Option (List ℕ) → Reading
 readingOf x none = Unsound
 readingOf x (some xs) = Members (length xs) (below x xs)
-
--- the list that was found, [] where none was
-abbrev pub listOf : Option (List ℕ) → List ℕ
-listOf none = []
-listOf (some xs) = xs
-
--- each member's mini-bucket, in a word with 36 ones
-unfoldable pub minisOf : ℕ → List ℕ
-minisOf w = listOf (minisFrom 64 36 0 w)
 
 -- a front bucket's members
 unfoldable pub frontList : List ℕ → List ℕ

@@ -9,8 +9,8 @@ use lib.Dec.{eqb}
 use Rattle.multiset.specs.Multisets.{ascending, allZero, below}
 use Rattle.multiset.specs.Digits.{spread, grouped, joined}
 use Rattle.crumbmap.specs.Layouts.{layout1}
-use Rattle.minifilter.specs.Buckets.{given, slotKeys}
-use Rattle.minifilter.specs.Readings.{minisOf}
+use Rattle.buckets.specs.Buckets.{given, slotKeys}
+use Rattle.buckets.specs.Words.{minisOf}
 use Rattle.minifilter.specs.declared.Order.{Order}
 use Rattle.minifilter.specs.declared.Order.the-variants as O
 

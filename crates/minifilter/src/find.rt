@@ -1,9 +1,9 @@
 // What a sound bucket holds: where a member stands, the largest, the member at a slot, all in order, those that carry a crumb.
 
 use crate::Carried;
-use crate::select;
 use crate::slots;
-use crate::word;
+use words::select;
+use words::word;
 ghost use mathlib.Core.Path.{_≡_};
 ghost use Prim.Native.Nat.{_+_, _*_, _-_, _<_, _≤_};
 ghost use mathlib.Core.List.{_++_};
@@ -12,10 +12,10 @@ ghost use lib.Count.{trailingZeros};
 ghost use Rattle.multiset.specs.Multisets.{below, copies, largest};
 ghost use Rattle.multiset.specs.Digits.{grouped};
 ghost use Rattle.crumbmap.specs.Layouts.{layout1, keys};
-ghost use Rattle.minifilter.specs.Buckets.{carrying};
+ghost use Rattle.buckets.specs.Buckets.{carrying};
 ghost use Rattle.minifilter.specs.Readings.{SoundFront, SoundBack, frontList, backList, firstOf};
 ghost use Rattle.minifilter.specs.Slots.{slotCount};
-ghost use Rattle.minifilter.specs.Edits.{Sound, membersOf, spanOf, lowAt, Scanned, FirstWith, wantedAt, chosen};
+ghost use Rattle.minifilter.specs.Searches.{Sound, membersOf, spanOf, lowAt, Scanned, FirstWith, wantedAt, chosen};
 
 // What the bytes hold of a slot.
 fn low_of(b: &[u8], crumbs: bool, slot: usize) -> u32

@@ -1,12 +1,8 @@
-// One 64-byte bucket: its word, slots, reader, search, insert and remove.
+// One 64-byte bucket: its slots, the reader, and the search in a bucket that was read.
 
-pub mod edit;
 pub mod find;
 pub mod read;
-pub mod select;
 pub mod slots;
-pub mod word;
-pub mod write;
 
 // What reading a bucket whole finds: "its member count, or unsound"; beside the count, how many members are below the one that is sought.
 pub enum Reading {
@@ -15,7 +11,7 @@ pub enum Reading {
 }
 
 // What a pass over all slots finds: how many are below the member that is sought, where they ascend.
-pub(crate) enum Order {
+pub enum Order {
     Below(usize),
     Broken,
 }
@@ -24,10 +20,4 @@ pub(crate) enum Order {
 pub enum Carried {
     Key(u32, usize),
     Nothing,
-}
-
-// The slots of a mini-bucket in a word: from the first up to, and without, the one past the last.
-pub struct Bounds {
-    pub from: usize,
-    pub past: usize,
 }

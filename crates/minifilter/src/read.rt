@@ -3,9 +3,9 @@
 use crate::Order;
 use crate::Reading;
 use crate::slots;
-use crate::word;
 use crumbmap::Backyard;
 use crumbmap::valid;
+use words::word;
 ghost use mathlib.Core.Path.{_≡_};
 ghost use mathlib.Core.Bool.{true};
 ghost use Prim.Native.Nat.{_+_, _*_, _%_, _<_, _≤_};
@@ -13,7 +13,7 @@ ghost use lib.ListN.{length, take, drop, getD};
 ghost use lib.Count.{ones};
 ghost use Rattle.multiset.specs.Digits.{grouped};
 ghost use Rattle.crumbmap.specs.Layouts.{layout1, keys, backyards};
-ghost use Rattle.minifilter.specs.Buckets.{frontMembers, backMembers};
+ghost use Rattle.buckets.specs.Buckets.{frontMembers, backMembers};
 ghost use Rattle.minifilter.specs.Readings.{readingOf};
 ghost use Rattle.minifilter.specs.Slots.{slotCount, slotCrumbs, memberOf, endOf, slotMembers, inOrder, orderOf, slotList, marked};
 

@@ -8,7 +8,7 @@ use Rattle.crumbmap.specs.Layouts.{layout1}
 use Rattle.machine.specs.Results.{Result, accepted}
 use Rattle.machine.specs.Pages.{Run}
 use Rattle.machine.specs.Calls.{pageOf, outputOf}
-use Rattle.breadcrumb.specs.Answers.{extentOf}
+use Rattle.answers.specs.Answers.{extentOf}
 use Rattle.frame.specs.Texts.{over}
 use Rattle.frame.specs.Frames.{told, listText, room}
 use Rattle.frame.proofs.PrintLaws.{length-line}

@@ -2,7 +2,7 @@
 use mathlib.Core.Path.{refl, _∙_, ap}
 use Rattle.crumbmap.specs.Layouts.{layout1}
 use Rattle.machine.specs.Calls.{insertOf, deleteOf}
-use Rattle.answers.specs.declared.Said.{Said}
+use Rattle.answers.specs.declared.pairs.Said.{Said}
 use Rattle.answers.proofs.PairLaws.{said-changed}
 use Rattle.frame.specs.Frames.{told, textOf, imageAfter}
 use Rattle.frame.specs.declared.Frame.the-variants.{Insert, Delete, Ask, Count, Malformed}

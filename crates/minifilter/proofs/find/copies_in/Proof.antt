@@ -6,10 +6,10 @@ use native.Mathlib.Omega.{arith}
 use borrow.Author.Needs.{needs}
 use Rattle.multiset.specs.Multisets.{below}
 use Rattle.multiset.specs.Digits.{highs}
-use Rattle.minifilter.specs.Readings.{minisOf}
+use Rattle.buckets.specs.Words.{minisOf}
 use Rattle.minifilter.specs.Slots.{slotCount}
-use Rattle.minifilter.specs.Edits.{membersOf, spanOf}
-use Rattle.minifilter.proofs.ElementLaws.{below-bytes}
+use Rattle.minifilter.specs.Searches.{membersOf, spanOf}
+use Rattle.buckets.proofs.ElementLaws.{below-bytes}
 use Rattle.minifilter.proofs.FindLaws.{Held, sound-long, span-le, slots-le, held, held-past, rank-from, rank-past, copies-scanned}
 use Rattle.minifilter.proofs.find.copies_in.Statement.{statement}
 use Rattle.minifilter.proofs.find.copies_in.Tie as tie

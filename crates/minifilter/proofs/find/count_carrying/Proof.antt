@@ -9,12 +9,13 @@ use lib.ListN.{length, take, getD}
 use lib.Seq.{take-all}
 use Rattle.multiset.proofs.DigitLaws.{length-highs}
 use Rattle.multiset.proofs.MultisetLaws.{hit-equal, hit-other}
-use Rattle.minifilter.specs.Buckets.{carrying}
-use Rattle.minifilter.specs.Readings.{backList, minisOf}
-use Rattle.minifilter.proofs.ElementLaws.{below-bytes}
+use Rattle.buckets.specs.Buckets.{carrying}
+use Rattle.minifilter.specs.Readings.{backList}
+use Rattle.buckets.specs.Words.{minisOf}
+use Rattle.buckets.proofs.ElementLaws.{below-bytes}
 use Rattle.minifilter.proofs.FindLaws.{Held, held}
 use Rattle.minifilter.proofs.ListLaws.{held-crumb}
-use Rattle.minifilter.proofs.CarryLaws.{carrying-on}
+use Rattle.buckets.proofs.CarryLaws.{carrying-on}
 use Rattle.minifilter.proofs.find.count_carrying.Statement.{statement}
 use Rattle.minifilter.proofs.find.count_carrying.Tie as tie
 

@@ -5,10 +5,11 @@ use Prim.Native.Nat.{ℕ, _/_, _<_}
 use mathlib.Core.Bool.{true}
 use native.Mathlib.Omega.{arith}
 use lib.ListN.{length}
-use Rattle.minifilter.specs.Readings.{backList, firstOf, minisOf}
+use Rattle.minifilter.specs.Readings.{backList, firstOf}
+use Rattle.buckets.specs.Words.{minisOf}
 use Rattle.minifilter.specs.declared.Carried.the-variants.{Key}
 use Rattle.multiset.proofs.DigitLaws.{length-highs}
-use Rattle.minifilter.proofs.ElementLaws.{below-bytes}
+use Rattle.buckets.proofs.ElementLaws.{below-bytes}
 use Rattle.minifilter.proofs.FindLaws.{Held, held}
 use Rattle.minifilter.proofs.ListLaws.{held-crumb, carrying-none, carrying-first}
 use Rattle.minifilter.proofs.find.first_carrying.Statement.{statement}

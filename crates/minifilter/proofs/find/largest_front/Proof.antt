@@ -9,7 +9,7 @@ use lib.Count.{leadingZeros}
 use Rattle.multiset.specs.Digits.{highs}
 use Rattle.minifilter.specs.Readings.{frontList}
 use Rattle.multiset.proofs.DigitLaws.{length-highs}
-use Rattle.minifilter.proofs.ElementLaws.{below-bytes}
+use Rattle.buckets.proofs.ElementLaws.{below-bytes}
 use Rattle.minifilter.proofs.FindLaws.{Held, held}
 use Rattle.minifilter.proofs.ListLaws.{largest-at, last-leading, held-key}
 use Rattle.minifilter.proofs.find.largest_front.Statement.{statement}

@@ -9,12 +9,13 @@ use lib.ListN.{length, take, drop, getD, length-set}
 use lib.Seq.{take-all}
 use lib.Count.{ones, trailingZeros}
 use Rattle.multiset.specs.Digits.{highs}
-use Rattle.minifilter.specs.Readings.{minisOf, backList}
+use Rattle.buckets.specs.Words.{minisOf}
+use Rattle.minifilter.specs.Readings.{backList}
 use Rattle.minifilter.specs.Slots.{slotMinis}
 use Rattle.multiset.proofs.DigitLaws.{length-highs}
-use Rattle.minifilter.proofs.GapLaws.{gaps}
+use Rattle.buckets.proofs.GapLaws.{gaps}
 use Rattle.minifilter.proofs.PassLaws.{slotMinis-gaps}
-use Rattle.minifilter.proofs.ElementLaws.{below-bytes}
+use Rattle.buckets.proofs.ElementLaws.{below-bytes}
 use Rattle.minifilter.proofs.FindLaws.{Held, held}
 use Rattle.minifilter.proofs.ListLaws.{Turn, turn, held-key, held-lt, held-member, member-stored}
 use Rattle.minifilter.proofs.find.list_back.Statement.{statement}

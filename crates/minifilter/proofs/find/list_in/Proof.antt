@@ -9,13 +9,13 @@ use lib.ListN.{length, take, drop, getD, length-set}
 use lib.Seq.{take-all}
 use lib.Count.{ones, trailingZeros}
 use Rattle.multiset.specs.Digits.{highs}
-use Rattle.minifilter.specs.Readings.{minisOf}
+use Rattle.buckets.specs.Words.{minisOf}
 use Rattle.minifilter.specs.Slots.{slotCount, slotMinis}
-use Rattle.minifilter.specs.Edits.{membersOf, spanOf}
+use Rattle.minifilter.specs.Searches.{membersOf, spanOf}
 use Rattle.multiset.proofs.DigitLaws.{length-highs}
-use Rattle.minifilter.proofs.GapLaws.{gaps}
+use Rattle.buckets.proofs.GapLaws.{gaps}
 use Rattle.minifilter.proofs.PassLaws.{slotMinis-gaps}
-use Rattle.minifilter.proofs.ElementLaws.{below-bytes}
+use Rattle.buckets.proofs.ElementLaws.{below-bytes}
 use Rattle.minifilter.proofs.FindLaws.{Held, sound-long, held}
 use Rattle.minifilter.proofs.ListLaws.{Turn, Listed, keyOf, held-key, turn, listed-start, listed-yes, listed-no}
 use Rattle.minifilter.proofs.find.list_in.Statement.{statement}

@@ -8,10 +8,10 @@ use lib.ListN.{getD}
 use mir.Val.{Fits}
 use mir.Syntax.{w32}
 use Rattle.multiset.specs.Digits.{highs}
-use Rattle.minifilter.specs.Edits.{membersOf, spanOf}
-use Rattle.minifilter.proofs.SelectLaws.{select-le}
+use Rattle.minifilter.specs.Searches.{membersOf, spanOf}
+use Rattle.words.proofs.SelectLaws.{select-le}
 use Rattle.minifilter.proofs.PassLaws.{slotCount-le}
-use Rattle.minifilter.proofs.ElementLaws.{below-bytes}
+use Rattle.buckets.proofs.ElementLaws.{below-bytes}
 use Rattle.minifilter.proofs.FindLaws.{Held, sound-long, span-pos, span-le, getD-highs, held}
 use Rattle.minifilter.proofs.ListLaws.{member-select}
 use Rattle.minifilter.proofs.find.member_in.Statement.{statement}

@@ -5,10 +5,10 @@ use mathlib.Core.List.{List}
 use native.Mathlib.Omega.{arith}
 use Rattle.multiset.specs.Multisets.{below}
 use Rattle.multiset.specs.Digits.{highs}
-use Rattle.minifilter.specs.Readings.{minisOf}
-use Rattle.minifilter.specs.Edits.{membersOf, spanOf}
+use Rattle.buckets.specs.Words.{minisOf}
+use Rattle.minifilter.specs.Searches.{membersOf, spanOf}
 use Rattle.multiset.proofs.MultisetLaws.{below-suc}
-use Rattle.minifilter.proofs.ElementLaws.{below-bytes}
+use Rattle.buckets.proofs.ElementLaws.{below-bytes}
 use Rattle.minifilter.proofs.FindLaws.{Held, sound-long, held, held-past, rank-scanned}
 use Rattle.minifilter.proofs.find.rank_in.Statement.{statement}
 use Rattle.minifilter.proofs.find.rank_in.Tie as tie

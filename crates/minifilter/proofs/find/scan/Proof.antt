@@ -1,7 +1,7 @@
 -- `find::scan` meets its contract. The loop's invariant: every slot passed holds less than `low`. The measure is what is left of the slots.
 use Prim.Native.Nat.{ℕ, _≤_, _<_, _-_}
 use native.Mathlib.Omega.{arith}
-use Rattle.minifilter.specs.Edits.{lowAt}
+use Rattle.minifilter.specs.Searches.{lowAt}
 use Rattle.minifilter.proofs.FindLaws.{smaller-on}
 use Rattle.minifilter.proofs.find.scan.Statement.{statement}
 use Rattle.minifilter.proofs.find.scan.Tie as tie

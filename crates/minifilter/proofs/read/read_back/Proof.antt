@@ -9,7 +9,7 @@ use lib.ListN.{take, getD}
 use lib.Dec.{eqb}
 use Rattle.multiset.proofs.DigitLaws.{below-take}
 use Rattle.crumbmap.specs.Layouts.{layout1}
-use Rattle.minifilter.specs.Buckets.{backMembers, valid}
+use Rattle.buckets.specs.Buckets.{backMembers, valid}
 use Rattle.minifilter.specs.Readings.{readingOf}
 use Rattle.minifilter.specs.Slots.{slotCrumbs}
 use Rattle.minifilter.proofs.PassLaws.{below-slotCrumbs}

@@ -6,7 +6,7 @@ use native.Mathlib.Omega.{arith}
 use borrow.Author.Needs.{needs}
 use Rattle.minifilter.specs.Readings.{readingOf}
 use Rattle.minifilter.specs.Slots.{slotList}
-use Rattle.minifilter.proofs.ElementLaws.{below-bytes}
+use Rattle.buckets.proofs.ElementLaws.{below-bytes}
 use Rattle.minifilter.proofs.ReadLaws.{reading-unlike, reading-over, reading-slots, orderReading}
 use Rattle.minifilter.proofs.read.read_slots.Statement.{statement}
 use Rattle.minifilter.proofs.read.read_slots.Tie as tie

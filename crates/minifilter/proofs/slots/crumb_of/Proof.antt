@@ -2,7 +2,7 @@
 use Prim.Native.Nat.{_+_, _/_}
 use native.Mathlib.Omega.{arith}
 use borrow.Author.Needs.{needs}
-use Rattle.minifilter.proofs.ElementLaws.{crumb-at}
+use Rattle.buckets.proofs.ElementLaws.{crumb-at}
 use Rattle.minifilter.proofs.slots.crumb_of.Statement.{statement}
 use Rattle.minifilter.proofs.slots.crumb_of.Tie as tie
 

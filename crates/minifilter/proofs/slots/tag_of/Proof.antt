@@ -1,7 +1,7 @@
 -- `minifilter::slots::tag_of` meets its contract: its two bytes are the tag of the slot, by `tag-at`.
 use Prim.Native.Nat.{_+_, _*_}
 use native.Mathlib.Omega.{arith}
-use Rattle.minifilter.proofs.ElementLaws.{tag-at}
+use Rattle.buckets.proofs.ElementLaws.{tag-at}
 use Rattle.minifilter.proofs.slots.tag_of.Statement.{statement}
 use Rattle.minifilter.proofs.slots.tag_of.Tie as tie
 

@@ -1,0 +1,3 @@
+-- Laws of the steps of delete.
+pub mod DeleteSteps
+pub mod LeavingLaws

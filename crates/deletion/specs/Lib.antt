@@ -1,0 +1,2 @@
+-- The steps of delete.
+pub mod Deletions

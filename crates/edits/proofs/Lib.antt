@@ -1,0 +1,4 @@
+-- Laws of edits.
+pub mod ShiftLaws
+pub mod EditLaws
+pub mod WriteLaws

@@ -1,0 +1,57 @@
+-- `image::back::insert_back_at` meets its contract. The part that is written is the backyard bucket (`put-part`).
+use Prim.Native.Nat.{_+_}
+use borrow.Author.Needs.{needs}
+use Rattle.crumbmap.specs.Layouts.{fronts}
+use Rattle.machine.specs.Images.{putBack}
+use Rattle.image.proofs.PartLaws.{part-bucket, put-part}
+use Rattle.image.proofs.back.insert_back_at.Statement.{statement}
+use Rattle.image.proofs.back.insert_back_at.Tie as tie
+
+table-of-requires : tie.Need-table-of-requires
+table-of-requires c κs = search needs
+
+mul-at : tie.Need-mul-at
+mul-at c = search needs
+
+add-end : tie.Need-add-end
+add-end c = search needs
+
+sub-insert-back : tie.Need-sub-insert-back
+sub-insert-back c = search needs
+
+part-insert-back-start : tie.Need-part-insert-back-start
+part-insert-back-start c = search needs
+
+part-insert-back-end : tie.Need-part-insert-back-end
+part-insert-back-end c = search needs
+
+insert-back-requires : tie.Need-insert-back-requires
+insert-back-requires c κs =
+    let p = c .before .before .before .pre in
+    rw (c .before .table-of .ensures, part-bucket) (p .0 .sound, p .1, p .2, p .3)
+
+same-length : tie.Need-same-length
+same-length c = search needs
+
+returns : tie.Need-returns
+unfolding putBack
+returns c =
+    let c4 = c .before .before .before .before in
+    let c6 = c4 .before .before in
+    let a = c6 .args in
+    let i = c4 .table-of .ensures in
+    rw i (put-part (fronts (a .size) + a .bucket .0) (a .image .now) (rw (i, part-bucket) at (c .before .before .insert-back .ensures)))
+
+pub insert-back-at-spec : {M : Type 1} → statement M
+insert-back-at-spec =
+    tie.close
+    (tie.spec
+    table-of-requires
+    mul-at
+    add-end
+    sub-insert-back
+    part-insert-back-start
+    part-insert-back-end
+    insert-back-requires
+    same-length
+    returns)

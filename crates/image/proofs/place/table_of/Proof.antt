@@ -1,0 +1,20 @@
+-- `image::place::table_of` meets its contract. The table number of a backyard bucket.
+use native.Mathlib.Omega.{arith}
+use borrow.Author.Needs.{needs}
+use Rattle.crumbmap.specs.Layouts.{fronts, backyards}
+use Rattle.image.proofs.place.table_of.Statement.{statement}
+use Rattle.image.proofs.place.table_of.Tie as tie
+
+mul-result : tie.Need-mul-result
+mul-result c = search needs
+
+add-result : tie.Need-add-result
+unfolding backyards
+add-result c = omega arith
+
+returns : tie.Need-returns
+unfolding fronts
+returns c = omega arith
+
+pub table-of-spec : {M : Type 1} → statement M
+table-of-spec = tie.close (tie.spec mul-result add-result returns)

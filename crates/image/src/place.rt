@@ -1,0 +1,54 @@
+// Where a bucket of an image stands: the image's size, what a hash names in it, and the table number of a backyard bucket.
+
+use crate::Located;
+use crate::Size;
+use crate::Target;
+use crumbmap::Backyard;
+use crumbmap::fingerprint::front_of;
+use crumbmap::fingerprint::key_of;
+ghost use mathlib.Core.Path.{_≡_};
+ghost use Prim.Native.Nat.{_+_, _*_, _<_, _≤_};
+ghost use Rattle.crumbmap.specs.Layouts.{fronts, backyards};
+ghost use Rattle.machine.specs.Images.{sizeOf};
+ghost use Rattle.image.specs.ImageReads.{sizing, LocatedIn, At};
+
+// "A lent byte slice of 576 × B + 448 bytes, B from 1 to 65,536."
+pub fn size_of(len: usize) -> Size
+    ensures { λ r. ⌜ r ≡ sizing (sizeOf len) ⌝ }
+{
+    if len < 1024 {
+        return Size::Wrong;
+    }
+    let size = (len - 448) / 576;
+    if 65536 < size {
+        return Size::Wrong;
+    }
+    if len == 576 * size + 448 {
+        Size::Buckets(size)
+    } else {
+        Size::Wrong
+    }
+}
+
+// What a hash names in an image of so many bytes.
+pub fn locate(len: usize, hash: u64) -> Located
+    ensures { λ r. ⌜ LocatedIn len hash r ⌝ }
+{
+    let Size::Buckets(size) = size_of(len) else {
+        return Located::Wrong;
+    };
+    Located::At(Target {
+        size,
+        front: front_of(hash, size),
+        key: key_of(hash),
+    })
+}
+
+// "The table number of backyard bucket j is F + j."
+pub fn table_of(size: usize, bucket: Backyard) -> usize
+    requires { ⌜ (size ≤ 65536) × (bucket .0 < backyards size) ⌝ }
+    ensures { λ r. ⌜ r ≡ fronts size + bucket .0 ⌝ }
+{
+    let j = bucket.0;
+    8 * size + j
+}

@@ -1,0 +1,2 @@
+-- Laws of the steps of insert.
+pub mod InsertSteps

@@ -1,0 +1,33 @@
+-- `insertion::insert::overflow_of` meets its contract. The larger of the key and the largest in front.
+use mathlib.Core.Path.{_≡_, sym, _∙_}
+use native.Mathlib.Omega.{arith}
+use borrow.Author.Needs.{needs}
+use Rattle.image.specs.ImageReads.{inFront}
+use Rattle.image.proofs.ImageReadLaws.{largest-key}
+use Rattle.insertion.proofs.InsertSteps.{over-largest, over-key}
+use Rattle.insertion.proofs.insert.overflow_of.Statement.{statement}
+use Rattle.insertion.proofs.insert.overflow_of.Tie as tie
+
+largest-front-at-requires : tie.Need-largest-front-at-requires
+largest-front-at-requires c κs = search needs
+
+returns : tie.Need-returns
+returns c =
+    let s = c .before .before .before in
+    let xs = inFront (s .args .front .0) (s .args .image .now) in
+    let l = c .before .largest-front-at .ensures in (
+      l ∙ sym (over-largest (s .args .key) xs (s .pre .0 .read .list .order) (omega (arith, l))),
+      omega (arith, l, largest-key (s .pre .0) .1),
+    )
+
+returns-2 : tie.Need-returns-2
+returns-2 c =
+    let s = c .before .before .before in
+    let xs = inFront (s .args .front .0) (s .args .image .now) in
+    let l = c .before .largest-front-at .ensures in (
+      sym (over-key (s .args .key) xs (s .pre .0 .read .list .order) (omega (arith, l))),
+      s .pre .1,
+    )
+
+pub overflow-of-spec : {M : Type 1} → statement M
+overflow-of-spec = tie.close (tie.spec largest-front-at-requires returns returns-2)

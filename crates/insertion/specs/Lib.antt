@@ -1,0 +1,2 @@
+-- The steps of insert.
+pub mod Insertions

@@ -1,0 +1,3 @@
+// Insert: one more copy of a hash's fingerprint.
+
+pub mod insert;

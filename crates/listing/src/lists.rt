@@ -1,0 +1,43 @@
+// Two ascending lists of keys merged into one.
+
+ghost use mathlib.Core.Path.{_≡_};
+ghost use mathlib.Core.List.{_++_};
+ghost use Prim.Native.Nat.{_+_, _≤_};
+ghost use lib.ListN.{length, drop};
+ghost use lib.Dec.{T};
+ghost use Rattle.multiset.specs.Multisets.{ascending};
+ghost use Rattle.machine.specs.Bags.{addedAll};
+ghost use Rattle.listing.specs.Listings.{fromLeft};
+
+// The keys of both lists, ascending, into the start of `out`.
+pub fn merge_into(a: &[u32], b: &[u32], out: &mut [u32])
+    requires { ⌜ T (ascending (now a)) × T (ascending (now b)) × (length (now a) + length (now b) ≤ length (now out)) × (length (now out) ≤ 72) ⌝ }
+    ensures { λ _. ⌜ now (out .exit) ≡ addedAll (now (a .entry)) (now (b .entry)) ++ drop (length (now (a .entry)) + length (now (b .entry))) (now (out .entry)) ⌝ }
+{
+    let n = a.len() + b.len();
+    let mut i = 0;
+    let mut j = 0;
+    while i + j < n {
+        if from_left(a, i, b, j) {
+            out[i + j] = a[i];
+            i += 1;
+        } else {
+            out[i + j] = b[j];
+            j += 1;
+        }
+    }
+}
+
+// The next key of the merged list is a[i]: b has none left, or a[i] is at most b[j].
+fn from_left(a: &[u32], i: usize, b: &[u32], j: usize) -> bool
+    requires { ⌜ (i ≤ length (now a)) × (j ≤ length (now b)) ⌝ }
+    ensures { λ r. ⌜ r ≡ fromLeft (drop i (now (a .entry))) (drop j (now (b .entry))) ⌝ }
+{
+    if a.len() <= i {
+        return false;
+    }
+    if b.len() <= j {
+        return true;
+    }
+    a[i] <= b[j]
+}

@@ -1,0 +1,115 @@
+// Page: "writes the members of the longest run of whole buckets s, s + 1, .. that fits, ascending; gives how many and the next bucket".
+// One pass reads and counts, a second writes without reading again.
+
+use crate::Held;
+use crate::Reach;
+use crate::members::count_members;
+use crate::members::list_members;
+use answers::Paged;
+use answers::Refusal;
+use crumbmap::Front;
+use crumbmap::fingerprint::number_of;
+use image::Size;
+use image::place::size_of;
+ghost use mathlib.Core.Path.{_≡_};
+ghost use Prim.Native.Nat.{_-_, _<_, _≤_};
+ghost use mathlib.Core.List.{_++_, map};
+ghost use lib.ListN.{length, drop};
+ghost use Rattle.multiset.specs.Multisets.{Below};
+ghost use Rattle.crumbmap.specs.Layouts.{layout1, keys as allKeys, fronts};
+ghost use Rattle.crumbmap.specs.Fingerprints.{fingerprint};
+ghost use Rattle.machine.specs.Pages.{pageFrom};
+ghost use Rattle.answers.specs.Answers.{Pages, Writes};
+ghost use Rattle.image.specs.ImageReads.{Whole};
+ghost use Rattle.image.specs.Listed.{Listed};
+ghost use Rattle.listing.specs.Listings.{membersIn, MembersRead, entriesIn, Ran, ReachSays};
+
+// The members from front bucket `start` on into `out`: how many, and the next bucket.
+pub fn page(image: &[u8], start: usize, out: &mut [u64]) -> Paged
+    ensures { λ r. ⌜ Pages (now (image .entry)) start (now (out .entry)) r (now (out .exit)) ⌝ }
+{
+    let Size::Buckets(size) = size_of(image.len()) else {
+        return Paged::Refused(Refusal::WrongLength);
+    };
+    if 8 * size < start {
+        return Paged::Refused(Refusal::PastEnd);
+    }
+    page_from(image, size, start, out)
+}
+
+// From a front bucket of the image, or from its end.
+fn page_from(image: &[u8], size: usize, start: usize, out: &mut [u64]) -> Paged
+    requires { ⌜ Whole size (now image) × (start ≤ fronts size) ⌝ }
+    ensures { λ r. ⌜ Writes (pageFrom layout1 size start (length (now (out .entry))) (now (image .entry))) (now (out .entry)) r (now (out .exit)) ⌝ }
+{
+    match measure(image, size, start, out.len()) {
+        Reach::Unsound(table) => Paged::Refused(Refusal::Unsound(table)),
+        Reach::Next(next) => {
+            if next == start {
+                if start < 8 * size {
+                    return Paged::Refused(Refusal::NoRoom);
+                }
+            }
+            Paged::Accepted(write_run(image, size, start, next, out), next)
+        }
+    }
+}
+
+// How far the run goes: buckets are read and counted "until one does not fit".
+fn measure(image: &[u8], size: usize, start: usize, room: usize) -> Reach
+    requires { ⌜ Whole size (now image) × (start ≤ fronts size) ⌝ }
+    ensures { λ r. ⌜ ReachSays size start room (now (image .entry)) r ⌝ }
+{
+    let mut f = start;
+    let mut left = room;
+    while f < 8 * size {
+        match count_members(image, size, Front(f)) {
+            Held::Unsound(table) => return Reach::Unsound(table),
+            Held::Members(n) => {
+                if left < n {
+                    return Reach::Next(f);
+                }
+                left -= n;
+                f += 1;
+            }
+        }
+    }
+    Reach::Next(f)
+}
+
+// The buckets of a measured run, one after the other, into the start of `out`; how many members.
+fn write_run(image: &[u8], size: usize, start: usize, next: usize, out: &mut [u64]) -> usize
+    requires { ⌜ Ran size start (length (now out)) (now image) next ⌝ }
+    ensures { λ r. ⌜ Listed (entriesIn size (next - start) start (now (image .entry))) (now (out .entry)) r (now (out .exit)) ⌝ }
+{
+    let mut f = start;
+    let mut n = 0;
+    while f < next {
+        n += write_bucket(image, size, Front(f), &mut out[n..]);
+        f += 1;
+    }
+    n
+}
+
+// The fingerprints of a bucket's members into the start of `out`; how many.
+fn write_bucket(image: &[u8], size: usize, front: Front, out: &mut [u64]) -> usize
+    requires { ⌜ MembersRead size (front .0) (now image) × (length (membersIn size (front .0) (now image)) ≤ length (now out)) ⌝ }
+    ensures { λ r. ⌜ Listed (map (fingerprint layout1 (front .0)) (membersIn size (front .0) (now (image .entry)))) (now (out .entry)) r (now (out .exit)) ⌝ }
+{
+    let mut keys = [0u32; 72];
+    let n = list_members(image, size, front, &mut keys);
+    number_all(front, &keys[..n], out);
+    n
+}
+
+// The fingerprints of a front bucket's keys into the start of `out`.
+fn number_all(front: Front, keys: &[u32], out: &mut [u64])
+    requires { ⌜ (front .0 < fronts 65536) × Below (allKeys layout1) (now keys) × (length (now keys) ≤ length (now out)) ⌝ }
+    ensures { λ _. ⌜ now (out .exit) ≡ map (fingerprint layout1 (front .0)) (now (keys .entry)) ++ drop (length (now (keys .entry))) (now (out .entry)) ⌝ }
+{
+    let mut i = 0;
+    while i < keys.len() {
+        out[i] = number_of(front, keys[i]);
+        i += 1;
+    }
+}

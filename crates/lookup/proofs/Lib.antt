@@ -1,0 +1,2 @@
+-- Laws of the steps of ask.
+pub mod AskSteps

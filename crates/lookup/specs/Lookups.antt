@@ -1,0 +1,27 @@
+-- What the steps of ask and count ask and say.
+use mathlib.Core.Path.{_≡_}
+use Prim.Native.Nat.{ℕ, _≤_}
+use mathlib.Core.List.{List}
+use mathlib.Core.Option.{Option, none, some}
+use Rattle.multiset.specs.Multisets.{copies, slotOf, largest}
+use Rattle.machine.specs.Results.{Result, accepted, refused}
+use Rattle.image.specs.declared.Target.{Target}
+use Rattle.lookup.specs.declared.Sought.{Sought}
+use Rattle.lookup.specs.declared.Sought.the-variants as S
+use Rattle.image.specs.ImageReads.{inFront, Placed, FrontFull}
+
+-- "Front(f) holds 28 and g is not below its largest", with so many copies in front
+pub record Reaches (t : Target) (here : ℕ) (img : List ℕ) : Type 0 where
+  pub placed : Placed t img
+  pub whole : FrontFull (t .front .0) img
+  pub reach : largest (inFront (t .front .0) img) ≤ t .key
+  pub many : here ≡ copies (t .key) (inFront (t .front .0) img)
+
+-- what seeking member y in a backyard bucket finds
+abbrev pub atSlot : Option ℕ → Sought
+atSlot none = S.Absent
+atSlot (some i) = S.At i
+
+abbrev pub soughtIn : ℕ → Result (List ℕ) → Sought
+soughtIn y (accepted ys) = atSlot (slotOf y ys)
+soughtIn y (refused n i) = S.Unsound i

@@ -1,0 +1,116 @@
+// Ask: "reads the front bucket; if g is not there, and Front(f) holds 28 and g exceeds its largest, b0, then, if not found, b1".
+
+use crate::Sought;
+use answers::Answer;
+use answers::Asked;
+use answers::Place;
+use answers::Refusal;
+use crumbmap::Overflow;
+use crumbmap::map::first_of;
+use crumbmap::map::second_of;
+use image::Located;
+use image::Target;
+use image::back::copies_back_at;
+use image::back::read_back_at;
+use image::front::copies_front_at;
+use image::front::largest_front_at;
+use image::front::read_front_at;
+use image::place::locate;
+use image::place::table_of;
+use minifilter::Reading;
+ghost use mathlib.Core.Path.{_≡_};
+ghost use Prim.Native.Nat.{_+_, _*_, _<_};
+ghost use Rattle.crumbmap.specs.Layouts.{layout1, keys};
+ghost use Rattle.machine.specs.Images.{backAt};
+ghost use Rattle.machine.specs.Machine.{askAt, asked, nowhere};
+ghost use Rattle.machine.specs.Calls.{askOf};
+ghost use Rattle.answers.specs.Answers.{askedOf};
+ghost use Rattle.image.specs.ImageReads.{Placed, BackIn, Exceeds};
+ghost use Rattle.lookup.specs.Lookups.{soughtIn};
+
+// Where the fingerprint of a hash stands, and how many buckets were read to tell.
+pub fn ask(image: &[u8], hash: u64) -> Answer
+    ensures { λ r. ⌜ askedOf r ≡ askOf layout1 (now (image .entry)) hash ⌝ }
+{
+    let Located::At(target) = locate(image.len(), hash) else {
+        return Answer::Refused(Refusal::WrongLength);
+    };
+    ask_front(image, target)
+}
+
+// The front bucket.
+fn ask_front(image: &[u8], target: Target) -> Answer
+    requires { ⌜ Placed target (now image) ⌝ }
+    ensures { λ r. ⌜ askedOf r ≡ askAt layout1 (target .size) (target .front .0) (target .key) (now (image .entry)) ⌝ }
+{
+    let front = target.front;
+    let key = target.key;
+    let Reading::Members(n, slot) = read_front_at(image, front, key) else {
+        return Answer::Refused(Refusal::Unsound(front.0));
+    };
+    if 0 < copies_front_at(image, front, slot, key) {
+        return Answer::Accepted(Asked {
+            reads: 1,
+            place: Place::Front(slot),
+        });
+    }
+    if n < 28 {
+        return none_in(1);
+    }
+    if key <= largest_front_at(image, front) {
+        return none_in(1);
+    }
+    ask_behind(image, target)
+}
+
+// The backyard buckets of a front bucket that holds 28, all smaller.
+fn ask_behind(image: &[u8], target: Target) -> Answer
+    requires { ⌜ Placed target (now image) × Exceeds (target .front .0) (target .key) (now image) ⌝ }
+    ensures { λ r. ⌜ askedOf r ≡ askAt layout1 (target .size) (target .front .0) (target .key) (now (image .entry)) ⌝ }
+{
+    let size = target.size;
+    let front = target.front;
+    let key = target.key;
+    match seek(image, size, first_of(front, size), key) {
+        Sought::Unsound(table) => Answer::Refused(Refusal::Unsound(table)),
+        Sought::At(slot) => Answer::Accepted(Asked {
+            reads: 2,
+            place: Place::First(slot),
+        }),
+        Sought::Absent => match seek(image, size, second_of(front, size), key) {
+            Sought::Unsound(table) => Answer::Refused(Refusal::Unsound(table)),
+            Sought::At(slot) => Answer::Accepted(Asked {
+                reads: 3,
+                place: Place::Second(slot),
+            }),
+            Sought::Absent => none_in(3),
+        },
+    }
+}
+
+// One backyard bucket is read, and the key sought with the crumb that it carries there.
+fn seek(image: &[u8], size: usize, way: Overflow, key: u32) -> Sought
+    requires { ⌜ BackIn size (way .bucket .0) (now image) × (way .crumb < 16) × (key < keys layout1) ⌝ }
+    ensures { λ r. ⌜ r ≡ soughtIn (key * 16 + way .crumb) (backAt layout1 size (way .bucket .0) (now (image .entry))) ⌝ }
+{
+    let bucket = way.bucket;
+    let member = key * 16 + way.crumb;
+    let Reading::Members(_, slot) = read_back_at(image, size, bucket, member) else {
+        return Sought::Unsound(table_of(size, bucket));
+    };
+    if 0 < copies_back_at(image, size, bucket, slot, member) {
+        Sought::At(slot)
+    } else {
+        Sought::Absent
+    }
+}
+
+// Nothing was found in so many reads.
+fn none_in(reads: u32) -> Answer
+    ensures { λ r. ⌜ askedOf r ≡ asked reads nowhere ⌝ }
+{
+    Answer::Accepted(Asked {
+        reads,
+        place: Place::Nowhere,
+    })
+}

@@ -1,0 +1,11 @@
+// Ask and count: what an image holds of one hash.
+
+pub mod ask;
+pub mod count;
+
+// What seeking a member in a backyard bucket finds: its lowest slot, or the table number of a bucket that is unsound.
+pub enum Sought {
+    At(usize),
+    Absent,
+    Unsound(usize),
+}

@@ -1,0 +1,309 @@
+-- The turns of `settle`: after i keys of b were put in after a, what stays is the first `kept` of a and the first `taken` of b.
+-- Main results: `settling-start`, `settling-room`, `settling-way`, `settling-stop` and `settling-end`, and `way-none` and `way-last` for `gives_way`.
+use mathlib.Core.Path.{_≡_, refl, sym, _∙_, ap}
+use Prim.Native.Nat.{ℕ, zero, suc, _+_, _-_, _≤_, _<_}
+use mathlib.Core.Bool.{true, false}
+use mathlib.Core.List.{List, [], _∷_, _++_, append-nil}
+use native.Mathlib.Numerals.{add-one}
+use native.Mathlib.Omega.{arith}
+use native.Mathlib.Decide.{decLe, ℕ-discrete}
+use lib.ListN.{length, take, getD, set, length-set}
+use lib.Seq.{take-all, take-suc, take-suc-set, length-take-le}
+use lib.Dec.{T, ltb}
+use borrow.Author.Tests.{le-ltb, ltb-true, ltb-false}
+use Rattle.multiset.specs.Multisets.{added, removed, copies, largest, ascending}
+use Rattle.multiset.proofs.MultisetLaws.{hit-same, hit-other, hit-equal, copies-cons, copies-append, copies-added, copies-removed, largest-max, largest-added, removed-added, head-least, ascending-tail, ascending-cons, ascending-added, ascending-removed, ascending-unique}
+use Rattle.machine.specs.Bags.{addedAll}
+use Rattle.machine.proofs.BagLaws.{copies-addedAll, length-addedAll, ascending-addedAll}
+use Rattle.merging.specs.Spills.{stays, goes, Settled}
+use Rattle.listing.proofs.MergedLists.{addedAll-nil}
+use Rattle.merging.proofs.SpillLaws.{copies-one, largest-is, largest-last, stays-room, stays-full, goes-room, goes-full, stays-append, goes-append}
+
+-- ---- the first members of an ascending list
+
+copies-take : (z k : ℕ) (xs : List ℕ) → 0 < copies z (take k xs) → 0 < copies z xs
+unfolding copies
+copies-take z zero xs c = absurd (omega arith)
+copies-take z (suc k) [] c = c
+copies-take z (suc k) (x ∷ xs) c = elim (ℕ-discrete z x) [
+  | yes e ↦ omega (arith, copies-cons z x xs, hit-equal z x e)
+  | no n ↦ omega (arith, copies-cons z x xs, copies-take z k xs (omega (arith, copies-cons z x (take k xs), hit-other z x n)))
+]
+
+pub ascending-take : (k : ℕ) (xs : List ℕ) → T (ascending xs) → T (ascending (take k xs))
+unfolding ascending
+ascending-take zero xs a = tt
+ascending-take (suc k) [] a = tt
+ascending-take (suc k) (x ∷ xs) a =
+    ascending-cons x (take k xs) (λ z c. head-least z x xs a (omega (arith, copies-cons z x xs, copies-take z k xs c)))
+    (ascending-take k xs (ascending-tail x xs a))
+
+copies-at : (i : ℕ) (xs : List ℕ) → i < length xs → 0 < copies (getD xs i 0) xs
+copies-at i [] l = absurd (omega arith)
+copies-at zero (x ∷ xs) l = omega (arith, copies-cons x x xs, hit-same x)
+copies-at (suc i) (x ∷ xs) l = omega (arith, copies-cons (getD xs i 0) x xs, copies-at i xs (omega arith))
+
+ascending-at : (i j : ℕ) (xs : List ℕ) → T (ascending xs) → i ≤ j → j < length xs → getD xs i 0 ≤ getD xs j 0
+ascending-at i j [] a l h = absurd (omega arith)
+ascending-at zero j (x ∷ xs) a l h = head-least (getD (x ∷ xs) j 0) x xs a (copies-at j (x ∷ xs) h)
+ascending-at (suc i) zero (x ∷ xs) a l h = absurd (omega arith)
+ascending-at (suc i) (suc j) (x ∷ xs) a l h = ascending-at i j xs (ascending-tail x xs a) (omega arith) (omega arith)
+
+-- the first k are at most the member behind them
+take-le : (z k i : ℕ) (xs : List ℕ) → T (ascending xs) → k ≤ i → i < length xs → 0 < copies z (take k xs) → z ≤ getD xs i 0
+unfolding copies
+take-le z k i [] a l h c = absurd (omega arith)
+take-le z zero i (x ∷ xs) a l h c = absurd (omega arith)
+take-le z (suc k) zero (x ∷ xs) a l h c = absurd (omega arith)
+take-le z (suc k) (suc i) (x ∷ xs) a l h c = elim (ℕ-discrete z x) [
+  | yes e ↦ omega (arith, ascending-at 0 (suc i) (x ∷ xs) a (omega arith) h)
+  | no n ↦ take-le z k i xs (ascending-tail x xs a) (omega arith) (omega arith) (omega (arith, copies-cons z x (take k xs), hit-other z x n))
+]
+
+-- the largest of the first is the last of them
+largest-take : (k : ℕ) (xs : List ℕ) → k < length xs → largest (take (suc k) xs) ≡ getD xs k 0
+unfolding largest
+largest-take k [] h = absurd (omega arith)
+largest-take zero (x ∷ xs) h = refl
+largest-take (suc k) (x ∷ []) h = absurd (omega arith)
+largest-take (suc k) (x ∷ y ∷ ys) h = largest-take k (y ∷ ys) (omega arith)
+
+pub largest-first : (k : ℕ) (xs : List ℕ) → 0 < k → k ≤ length xs → largest (take k xs) ≡ getD xs (k - 1) 0
+largest-first k xs p h =
+    let e : k ≡ suc (k - 1) = omega arith in
+    ap (λ (n : ℕ). largest (take n xs)) e ∙ largest-take (k - 1) xs (omega arith)
+
+-- ---- the turns
+
+pub way-none : (k x : ℕ) (xs : List ℕ) → k ≡ 0 → false ≡ ltb x (largest (take k xs))
+unfolding largest
+way-none k x xs e = sym (rw e (le-ltb x 0 (omega arith)))
+
+pub way-last : (k x : ℕ) (xs : List ℕ) → (k ≡ 0 → ⊥) → k ≤ length xs → ltb x (getD xs (k - 1) 0) ≡ ltb x (largest (take k xs))
+way-last k x xs n h = sym (ap (ltb x) (largest-first k xs (omega arith) h))
+
+pub record Settling (a b over : List ℕ) (kept taken gone i : ℕ) : Type 0 where
+  pub some-kept : kept ≤ length a
+  pub some-taken : taken ≤ i
+  pub some-done : i ≤ length b
+  pub room : kept + taken ≤ 28
+  pub some-gone : gone ≤ i
+  pub long : length over ≡ 72
+  pub front : addedAll (take kept a) (take taken b) ≡ stays 28 (take i b) a
+  pub leaves : take gone over ≡ goes 28 (take i b) a
+  -- the first key of b that did not stay, and with it all later ones, are at least what is kept of a
+  pub turn : taken < i → (kept + taken ≡ 28) × (largest (take kept a) ≤ getD b taken 0)
+
+module _ (a b over : List ℕ) (order-a : T (ascending a)) (order-b : T (ascending b)) (few-a : length a ≤ 28) (few-b : length b ≤ 72) where
+  pub settling-start : length over ≡ 72 → Settling a b over (length a) 0 0 0
+  unfolding stays goes
+  settling-start l = record {
+    some-kept = omega arith;
+    some-taken = omega arith;
+    some-done = omega arith;
+    room = omega arith;
+    some-gone = omega arith;
+    long = l;
+    front = rw (take-all (length a) a (omega arith)) (addedAll-nil a order-a);
+    leaves = refl;
+    turn = λ h. absurd (omega arith);
+  }
+
+  module _ (kept taken gone i : ℕ) (s : Settling a b over kept taken gone i) where
+    pub settling-end : length b ≤ i → Settled a b (record { kept = kept; taken = taken; gone = gone }) over
+    settling-end h = record {
+      kept = s .some-kept;
+      taken = omega (arith, s .some-taken, s .some-done);
+      room = s .room;
+      gone = omega (arith, s .some-gone, s .some-done);
+      front = s .front ∙ ap (λ (l : List ℕ). stays 28 l a) (take-all i b h);
+      leaves = s .leaves ∙ ap (λ (l : List ℕ). goes 28 l a) (take-all i b h);
+    }
+
+    module _ (h : i < length b) where
+      abbrev x : ℕ
+      x = getD b i 0
+
+      abbrev mine : List ℕ
+      mine = take kept a
+
+      abbrev theirs : List ℕ
+      theirs = take taken b
+
+      abbrev ws : List ℕ
+      ws = addedAll mine theirs
+
+      ws-order : T (ascending ws)
+      ws-order = ascending-addedAll mine theirs (ascending-take taken b order-b)
+
+      ws-length : length ws ≡ kept + taken
+      ws-length =
+          omega (
+            arith,
+            length-addedAll mine theirs,
+            length-take-le kept a (s .some-kept),
+            length-take-le taken b (omega (arith, s .some-taken, s .some-done)),
+          )
+
+      -- key x comes after the first i
+      next-stays : stays 28 (take (i + 1) b) a ≡ stays 28 (x ∷ []) ws
+      next-stays = rw (add-one i, take-suc b i 0 h, stays-append 28 (take i b) (x ∷ []) a, s .front)
+
+      next-goes : goes 28 (take (i + 1) b) a ≡ goes 28 (take i b) a ++ goes 28 (x ∷ []) ws
+      next-goes = rw (add-one i, take-suc b i 0 h, goes-append 28 (take i b) (x ∷ []) a, s .front)
+
+      gone-in : gone < 72
+      gone-in = omega (arith, s .some-gone)
+
+      -- and v leaves
+      left-on : (v : ℕ) → goes 28 (x ∷ []) ws ≡ v ∷ [] → take (gone + 1) (set over gone v) ≡ goes 28 (take (i + 1) b) a
+      left-on v e = rw (add-one gone, take-suc-set over gone v (omega (arith, s .long, gone-in)), next-goes, e, s .leaves)
+
+      -- x stays: all of b so far do
+      module _ (e : taken ≡ i) where
+        theirs-next : take (taken + 1) b ≡ theirs ++ (x ∷ [])
+        theirs-next = rw (e, add-one i, take-suc b i 0 h)
+
+        copies-theirs : (z : ℕ) → copies z (take (taken + 1) b) ≡ copies z theirs + copies z (x ∷ [])
+        copies-theirs z = rw theirs-next (copies-append z theirs (x ∷ []))
+
+        with-x : addedAll mine (take (taken + 1) b) ≡ added x ws
+        with-x =
+            ascending-unique (addedAll mine (take (taken + 1) b)) (added x ws)
+            (ascending-addedAll mine (take (taken + 1) b) (ascending-take (taken + 1) b order-b)) (ascending-added x ws ws-order)
+            (λ z. omega (arith, copies-addedAll z mine (take (taken + 1) b), copies-theirs z, copies-one z x, copies-added z x ws, copies-addedAll z mine theirs))
+
+      pub settling-room : kept + taken < 28 → Settling a b over kept (taken + 1) gone (i + 1)
+      unfolding stays goes
+      settling-room r =
+          let e : taken ≡ i = elim (decLe i taken) [ yes l ↦ omega (arith, s .some-taken) | no n ↦ absurd (omega (arith, s .turn (omega arith) .0)) ] in
+          let l : length ws < 28 = omega (arith, ws-length) in
+          record {
+            some-kept = s .some-kept;
+            some-taken = omega (arith, s .some-taken);
+            some-done = omega arith;
+            room = omega arith;
+            some-gone = omega (arith, s .some-gone);
+            long = s .long;
+            front = with-x e ∙ sym (next-stays ∙ stays-room 28 x [] ws l);
+            leaves = s .leaves ∙ sym (next-goes ∙ rw (goes-room 28 x [] ws l) (append-nil (goes 28 (take i b) a)));
+            turn = λ k. absurd (omega arith);
+          }
+
+      theirs-le : (z : ℕ) → 0 < copies z theirs → z ≤ x
+      theirs-le z c = take-le z taken i b order-b (s .some-taken) h c
+
+      mine-le : (z : ℕ) → 0 < copies z mine → z ≤ largest mine
+      mine-le z c = largest-max z mine (ascending-take kept a order-a) c
+
+      either-le : (m z : ℕ) → largest mine ≤ m → x ≤ m → 0 < copies z ws → z ≤ m
+      either-le m z p q c = elim (ℕ-discrete (copies z mine) 0) [
+        | yes n ↦ omega (arith, theirs-le z (omega (arith, copies-addedAll z mine theirs)))
+        | no n ↦ omega (arith, mine-le z (omega arith))
+      ]
+
+      -- x leaves
+      pub settling-stop : 28 ≤ kept + taken → ltb x (largest mine) ≡ false → (gone < 72) × Settling a b (set over gone x) kept taken (gone + 1) (i + 1)
+      unfolding stays goes
+      settling-stop r f =
+          let g : largest mine ≤ x = ltb-false x (largest mine) f in
+          let l : 28 ≤ length ws = omega (arith, ws-length) in
+          let up : largest (added x ws) ≡ x = largest-last x ws ws-order (λ z c. either-le x z g (omega arith) c) in (
+            gone-in,
+            record {
+              some-kept = s .some-kept;
+              some-taken = omega (arith, s .some-taken);
+              some-done = omega arith;
+              room = s .room;
+              some-gone = omega (arith, s .some-gone);
+              long = length-set over gone x ∙ s .long;
+              front = sym (next-stays ∙ stays-full 28 x [] ws l ∙ rw up (removed-added x ws));
+              leaves = left-on x (goes-full 28 x [] ws l ∙ rw up);
+              turn = λ k. (
+                omega (arith, s .room),
+                elim (decLe i taken) [
+                  | yes q ↦ let e : taken ≡ i = omega (arith, s .some-taken) in rw e g
+                  | no n ↦ s .turn (omega arith) .1
+                ],
+              );
+            },
+          )
+
+      -- the last that is kept of a leaves
+      module _ (r : 28 ≤ kept + taken) (f : ltb x (largest mine) ≡ true) where
+        less : x < largest mine
+        less = ltb-true x (largest mine) f
+
+        pub way-kept : 0 < kept
+        way-kept = go kept less
+          where
+            go : (k : ℕ) → x < largest (take k a) → 0 < k
+            go zero l = unfold largest in absurd (omega arith)
+            go (suc k) l = omega arith
+
+        way-all : taken ≡ i
+        way-all = elim (decLe i taken) [
+          | yes l ↦ omega (arith, s .some-taken)
+          | no n ↦ absurd (omega (arith, less, s .turn (omega arith) .1, ascending-at taken i b order-b (s .some-taken) h))
+        ]
+
+        abbrev last : ℕ
+        last = getD a (kept - 1) 0
+
+        kept-suc : kept ≡ suc (kept - 1)
+        kept-suc = omega (arith, way-kept)
+
+        last-in : kept - 1 < length a
+        last-in = omega (arith, way-kept, s .some-kept)
+
+        mine-largest : largest mine ≡ last
+        mine-largest = largest-first kept a way-kept (s .some-kept)
+
+        mine-parts : mine ≡ take (kept - 1) a ++ (last ∷ [])
+        mine-parts = ap (λ (k : ℕ). take k a) kept-suc ∙ take-suc a (kept - 1) 0 last-in
+
+        copies-mine : (z : ℕ) → copies z mine ≡ copies z (take (kept - 1) a) + copies z (last ∷ [])
+        copies-mine z = ap (copies z) mine-parts ∙ copies-append z (take (kept - 1) a) (last ∷ [])
+
+        last-in-ws : 0 < copies last ws
+        last-in-ws = omega (arith, copies-addedAll last mine theirs, copies-mine last, copies-one last last, hit-same last)
+
+        most : largest (added x ws) ≡ last
+        most =
+            let e : largest ws ≡ last = largest-is last ws ws-order last-in-ws (λ z c. either-le last z (omega (arith, mine-largest)) (omega (arith, mine-largest, less)) c) in
+            omega (arith, largest-added x ws ws-order, e, mine-largest, less)
+
+        without : addedAll (take (kept - 1) a) (take (taken + 1) b) ≡ removed last (added x ws)
+        without =
+            ascending-unique (addedAll (take (kept - 1) a) (take (taken + 1) b)) (removed last (added x ws))
+            (ascending-addedAll (take (kept - 1) a) (take (taken + 1) b) (ascending-take (taken + 1) b order-b))
+            (ascending-removed last (added x ws) (ascending-added x ws ws-order))
+            (λ z. omega (
+              arith,
+              copies-addedAll z (take (kept - 1) a) (take (taken + 1) b),
+              copies-theirs way-all z,
+              copies-one z x,
+              copies-removed z last (added x ws) (omega (arith, copies-added last x ws, last-in-ws)),
+              copies-added z x ws,
+              copies-addedAll z mine theirs,
+              copies-mine z,
+              copies-one z last,
+            ))
+
+        pub settling-way : (gone < 72) × Settling a b (set over gone last) (kept - 1) (taken + 1) (gone + 1) (i + 1)
+        unfolding stays goes
+        settling-way =
+            let l : 28 ≤ length ws = omega (arith, ws-length) in (
+              gone-in,
+              record {
+                some-kept = omega (arith, s .some-kept);
+                some-taken = omega (arith, s .some-taken);
+                some-done = omega arith;
+                room = omega (arith, s .room, way-kept);
+                some-gone = omega (arith, s .some-gone);
+                long = length-set over gone last ∙ s .long;
+                front = without ∙ sym (next-stays ∙ stays-full 28 x [] ws l ∙ rw most);
+                leaves = left-on last (goes-full 28 x [] ws l ∙ rw most);
+                turn = λ k. absurd (omega (arith, way-all));
+              },
+            )

@@ -1,0 +1,3 @@
+-- The passes of a merge.
+pub mod Merging
+pub mod Spills

@@ -1,0 +1,283 @@
+// Merge: "the target becomes fresh, then for f = 0 up inserts the first's members of f ascending, then the second's".
+// "Where just one of the two front buckets has members, its 64 bytes serve as the merged front bucket." Where both have, what those
+// inserts leave in front is written once, and what they send behind goes there in their order.
+
+use crate::settle::settle;
+use answers::Done;
+use answers::Refusal;
+use crumbmap::Front;
+use crumbmap::Overflow;
+use crumbmap::map::first_of;
+use crumbmap::map::second_of;
+use image::Size;
+use image::back::count_back_at;
+use image::back::insert_back_at;
+use image::back::rank_back_at;
+use image::fresh::clear_all;
+use image::fresh::fresh;
+use image::front::count_front_at;
+use image::front::fill_front_at;
+use image::front::whichever;
+use image::front::write_front_at;
+use image::place::size_of;
+use listing::lists::merge_into;
+use listing::members::list_members;
+use validation::check::check_sized;
+ghost use mathlib.Core.Path.{_≡_};
+ghost use Prim.Native.Nat.{_+_, _*_, _<_, _≤_};
+ghost use mathlib.Core.List.{[]};
+ghost use lib.ListN.{length, take};
+ghost use lib.Dec.{T};
+ghost use Rattle.multiset.specs.Multisets.{added, ascending, Below};
+ghost use Rattle.crumbmap.specs.Layouts.{layout1, keys as allKeys, fronts};
+ghost use Rattle.buckets.specs.Buckets.{FrontList};
+ghost use Rattle.machine.specs.Results.{refused, andThen};
+ghost use Rattle.machine.specs.Images.{emptyImage, putFront, putBack};
+ghost use Rattle.machine.specs.Merges.{insertAll, mergeFrom, mergeSized};
+ghost use Rattle.answers.specs.Answers.{Fills, Merges};
+ghost use Rattle.image.specs.ImageReads.{inFront, inBack, BackRead};
+ghost use Rattle.listing.specs.Listings.{behindIn, BehindRead};
+ghost use Rattle.merging.specs.Merging.{SizedAs, Checked, reached, bothInserted};
+ghost use Rattle.merging.specs.Spills.{stays, goes, pushAt, pushAll};
+
+// The members of two images into a third.
+pub fn merge<'a>(first: &'a [u8], second: &'a [u8], target: &mut [u8]) -> Done
+    ensures { λ r. ⌜ Merges (now (first .entry)) (now (second .entry)) (now (target .entry)) r (now (target .exit)) ⌝ }
+{
+    let Size::Buckets(size) = size_of(first.len()) else {
+        return Done::Refused(Refusal::WrongLength);
+    };
+    let Size::Buckets(other) = size_of(second.len()) else {
+        return Done::Refused(Refusal::WrongLength);
+    };
+    let Size::Buckets(into) = size_of(target.len()) else {
+        return Done::Refused(Refusal::WrongLength);
+    };
+    if size != other {
+        return Done::Refused(Refusal::LengthsDiffer);
+    }
+    if size != into {
+        return Done::Refused(Refusal::LengthsDiffer);
+    }
+    merge_sized(first, second, size, target)
+}
+
+// "Merge checks the first source whole, then the second, before it writes."
+fn merge_sized<'a>(first: &'a [u8], second: &'a [u8], size: usize, target: &mut [u8]) -> Done
+    requires { ⌜ SizedAs size (now first) × SizedAs size (now second) × SizedAs size (now target) ⌝ }
+    ensures { λ r. ⌜ Fills (mergeSized layout1 size (now (first .entry)) (now (second .entry))) (now (target .entry)) r (now (target .exit)) ⌝ }
+{
+    match check_sized(first, size) {
+        Done::Refused(why) => Done::Refused(why),
+        Done::Accepted => match check_sized(second, size) {
+            Done::Refused(why) => Done::Refused(why),
+            Done::Accepted => merge_checked(first, second, size, target),
+        },
+    }
+}
+
+// Two checked images into a fresh target, whatever its bytes were.
+fn merge_checked<'a>(first: &'a [u8], second: &'a [u8], size: usize, target: &mut [u8]) -> Done
+    requires { ⌜ Checked size (now first) × Checked size (now second) × SizedAs size (now target) ⌝ }
+    ensures { λ r. ⌜ Fills (mergeFrom layout1 size (fronts size) 0 (now (first .entry)) (now (second .entry)) (emptyImage layout1 size))
+        (now (target .entry)) r (now (target .exit)) ⌝ }
+{
+    fresh(target);
+    if merge_fronts(first, second, size, target) {
+        return Done::Accepted;
+    }
+    give_up(target, size)
+}
+
+// "4; kept, but a merge's target is fresh."
+fn give_up(target: &mut [u8], size: usize) -> Done
+    requires { ⌜ SizedAs size (now target) ⌝ }
+    ensures { λ r. ⌜ Fills (refused 4 0) (now (target .entry)) r (now (target .exit)) ⌝ }
+{
+    clear_all(target, 9 * size + 7);
+    Done::Refused(Refusal::Full)
+}
+
+// All front buckets into a fresh target, until it is full.
+fn merge_fronts<'a>(first: &'a [u8], second: &'a [u8], size: usize, target: &mut [u8]) -> bool
+    requires { ⌜ Checked size (now first) × Checked size (now second) × (now target ≡ emptyImage layout1 size) ⌝ }
+    ensures { λ r. ⌜ reached r (now (target .exit))
+        ≡ mergeFrom layout1 size (fronts size) 0 (now (first .entry)) (now (second .entry)) (now (target .entry)) ⌝ }
+{
+    let end = 8 * size;
+    let mut f = 0;
+    while f < end {
+        if !merge_front(first, second, size, Front(f), target) {
+            return false;
+        }
+        f += 1;
+    }
+    true
+}
+
+// One front bucket of both into a target whose own is empty.
+fn merge_front<'a>(
+    first: &'a [u8],
+    second: &'a [u8],
+    size: usize,
+    front: Front,
+    target: &mut [u8],
+) -> bool
+    requires { ⌜ Checked size (now first) × Checked size (now second) × Checked size (now target)
+        × (front .0 < fronts size) × (inFront (front .0) (now target) ≡ []) ⌝ }
+    ensures { λ r. ⌜ reached r (now (target .exit))
+        ≡ bothInserted size (front .0) (now (first .entry)) (now (second .entry)) (now (target .entry)) ⌝ }
+{
+    if count_front_at(first, front) == 0 {
+        return take_over(first, second, size, front, target);
+    }
+    if count_front_at(second, front) == 0 {
+        return take_over(first, second, size, front, target);
+    }
+    merge_both(first, second, size, front, target)
+}
+
+// The same where at most one of the two front buckets has members: its bytes serve.
+fn take_over<'a>(
+    first: &'a [u8],
+    second: &'a [u8],
+    size: usize,
+    front: Front,
+    target: &mut [u8],
+) -> bool
+    requires { ⌜ Checked size (now first) × Checked size (now second) × Checked size (now target)
+        × (front .0 < fronts size) × (inFront (front .0) (now target) ≡ [])
+        × (0 < length (inFront (front .0) (now first)) → length (inFront (front .0) (now second)) ≡ 0) ⌝ }
+    ensures { λ r. ⌜ reached r (now (target .exit))
+        ≡ bothInserted size (front .0) (now (first .entry)) (now (second .entry)) (now (target .entry)) ⌝ }
+{
+    write_front_at(target, front, whichever(first, second, front));
+    if add_behind(first, size, front, target) {
+        return add_behind(second, size, front, target);
+    }
+    false
+}
+
+// Those behind a source's front bucket, behind the target's.
+fn add_behind(source: &[u8], size: usize, front: Front, target: &mut [u8]) -> bool
+    requires { ⌜ Checked size (now source) × BehindRead size (front .0) (now target) ⌝ }
+    ensures { λ r. ⌜ (reached r (now (target .exit))
+        ≡ pushAll layout1 size (front .0) (behindIn size (front .0) (now (source .entry))) (now (target .entry)))
+        × BehindRead size (front .0) (now (target .exit)) ⌝ }
+{
+    if count_front_at(source, front) < 28 {
+        return true;
+    }
+    let mut keys = [0u32; 72];
+    let n = list_members(source, size, front, &mut keys);
+    push_all(&keys[28..n], size, front, target)
+}
+
+// The same where both have members: the two lists of them are put in.
+fn merge_both<'a>(
+    first: &'a [u8],
+    second: &'a [u8],
+    size: usize,
+    front: Front,
+    target: &mut [u8],
+) -> bool
+    requires { ⌜ Checked size (now first) × Checked size (now second) × Checked size (now target)
+        × (front .0 < fronts size) × (inFront (front .0) (now target) ≡ []) ⌝ }
+    ensures { λ r. ⌜ reached r (now (target .exit))
+        ≡ bothInserted size (front .0) (now (first .entry)) (now (second .entry)) (now (target .entry)) ⌝ }
+{
+    let mut a = [0u32; 72];
+    let mut b = [0u32; 72];
+    let n = list_members(first, size, front, &mut a);
+    let m = list_members(second, size, front, &mut b);
+    join(&a[..n], &b[..m], size, front, target)
+}
+
+// Two ascending lists of keys into a front bucket that is empty: what stays is written, then what leaves goes behind it.
+fn join(a: &[u32], b: &[u32], size: usize, front: Front, target: &mut [u8]) -> bool
+    requires { ⌜ Checked size (now target) × (front .0 < fronts size) × (inFront (front .0) (now target) ≡ [])
+        × T (ascending (now a)) × T (ascending (now b)) × Below (allKeys layout1) (now a) × Below (allKeys layout1) (now b) × (length (now b) ≤ 72) ⌝ }
+    ensures { λ r. ⌜ reached r (now (target .exit))
+        ≡ andThen (insertAll layout1 size (front .0) (now (a .entry)) (now (target .entry))) (insertAll layout1 size (front .0) (now (b .entry))) ⌝ }
+{
+    let mut over = [0u32; 72];
+    let own = in_front(a.len());
+    let gone = fill_both(&a[..own], b, front, &mut over, target);
+    if push_all(&a[own..], size, front, target) {
+        return push_all(&over[..gone], size, front, target);
+    }
+    false
+}
+
+// How many of n ascending keys an empty front bucket keeps.
+fn in_front(n: usize) -> usize
+    ensures { λ r. ⌜ (r ≤ n) × (r ≤ 28) × (r < 28 → n ≤ r) ⌝ }
+{
+    if n < 28 {
+        return n;
+    }
+    28
+}
+
+// A front bucket takes the keys of `a` and after them those of `b`, whatever its bytes were; those that leave it go into the start of
+// `over`; how many.
+fn fill_both(a: &[u32], b: &[u32], front: Front, over: &mut [u32], target: &mut [u8]) -> usize
+    requires { ⌜ FrontList layout1 (now a) × T (ascending (now b)) × Below (allKeys layout1) (now b) × (length (now b) ≤ 72)
+        × (length (now over) ≡ 72) × (64 * front .0 + 64 ≤ length (now target)) ⌝ }
+    ensures { λ r. ⌜ (r ≤ 72) × (take r (now (over .exit)) ≡ goes 28 (now (b .entry)) (now (a .entry)))
+        × (now (target .exit) ≡ putFront layout1 (front .0) (stays 28 (now (b .entry)) (now (a .entry))) (now (target .entry))) ⌝ }
+{
+    let mut keys = [0u32; 28];
+    let split = settle(a, b, over);
+    merge_into(&a[..split.kept], &b[..split.taken], &mut keys);
+    fill_front_at(target, front, &keys[..split.kept + split.taken]);
+    split.gone
+}
+
+// Keys behind a front bucket, one after the other, until both backyard buckets are full.
+fn push_all(keys: &[u32], size: usize, front: Front, target: &mut [u8]) -> bool
+    requires { ⌜ BehindRead size (front .0) (now target) × Below (allKeys layout1) (now keys) ⌝ }
+    ensures { λ r. ⌜ (reached r (now (target .exit)) ≡ pushAll layout1 size (front .0) (now (keys .entry)) (now (target .entry)))
+        × BehindRead size (front .0) (now (target .exit)) ⌝ }
+{
+    let mut i = 0;
+    while i < keys.len() {
+        if !push(target, size, front, keys[i]) {
+            return false;
+        }
+        i += 1;
+    }
+    true
+}
+
+// A key behind a front bucket: "to First(f) if n0 < n1, else to Second(f)". Where n0 is not below n1, both hold 22 if b1 does.
+fn push(image: &mut [u8], size: usize, front: Front, key: u32) -> bool
+    requires { ⌜ BehindRead size (front .0) (now image) × (key < allKeys layout1) ⌝ }
+    ensures { λ r. ⌜ (reached r (now (image .exit)) ≡ pushAt layout1 size (front .0) key (now (image .entry)))
+        × BehindRead size (front .0) (now (image .exit)) ⌝ }
+{
+    let first = first_of(front, size);
+    let second = second_of(front, size);
+    let n0 = count_back_at(image, size, first.bucket);
+    let n1 = count_back_at(image, size, second.bucket);
+    if n0 < n1 {
+        put_behind(image, size, first, key);
+        return true;
+    }
+    if n1 == 22 {
+        return false;
+    }
+    put_behind(image, size, second, key);
+    true
+}
+
+// A key joins a sound backyard bucket that has a free slot, with the crumb that it carries there.
+fn put_behind(image: &mut [u8], size: usize, way: Overflow, key: u32)
+    requires { ⌜ BackRead size (way .bucket .0) (now image) × (length (inBack size (way .bucket .0) (now image)) < 22) × (way .crumb < 16) × (key < allKeys layout1) ⌝ }
+    ensures { λ _. ⌜ now (image .exit) ≡ putBack layout1 size (way .bucket .0)
+        (added (key * 16 + way .crumb) (inBack size (way .bucket .0) (now (image .entry)))) (now (image .entry)) ⌝ }
+{
+    let member = key * 16 + way.crumb;
+    let slot = rank_back_at(image, size, way.bucket, member);
+    insert_back_at(image, size, way.bucket, slot, member);
+}

@@ -1,0 +1,2 @@
+-- Laws of the steps of a check.
+pub mod CheckSteps

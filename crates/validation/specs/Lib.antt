@@ -1,0 +1,2 @@
+-- The passes of a check.
+pub mod Passes

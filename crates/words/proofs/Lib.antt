@@ -1,0 +1,3 @@
+-- Laws of select: its table, and the count of ones byte by byte.
+pub mod SelectLaws
+pub mod TallyLaws

@@ -1,0 +1,2 @@
+-- Select: what the code's contracts cite.
+pub mod Select

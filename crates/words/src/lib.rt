@@ -1,0 +1,10 @@
+// The word of a bucket, and select over 64-bit words.
+
+pub mod select;
+pub mod word;
+
+// The slots of a mini-bucket in a word: from the first up to, and without, the one past the last.
+pub struct Bounds {
+    pub from: usize,
+    pub past: usize,
+}

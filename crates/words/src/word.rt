@@ -1,0 +1,106 @@
+// A bucket's word: read, write, its member count, the slots of a mini-bucket, and a bit put in or taken out.
+
+use crate::Bounds;
+use crate::select;
+ghost use mathlib.Core.Path.{_≡_};
+ghost use Prim.Native.Nat.{suc, _+_, _^_, _<_, _≤_};
+ghost use mathlib.Core.List.{_++_};
+ghost use lib.ListN.{length, take, drop};
+ghost use lib.Count.{ones};
+ghost use Rattle.multiset.specs.Multisets.{below};
+ghost use Rattle.multiset.specs.Digits.{digits, value};
+ghost use Rattle.buckets.specs.Words.{openedAt, closedAt, minisOf};
+
+// "Bytes 0 to 7: a little-endian word."
+pub fn word_of(b: &[u8]) -> u64
+    requires { ⌜ length (now b) ≡ 64 ⌝ }
+    ensures { λ r. ⌜ r ≡ value 256 (take 8 (now (b .entry))) ⌝ }
+{
+    (b[0] as u64)
+        + 256 * (b[1] as u64)
+        + 65_536 * (b[2] as u64)
+        + 16_777_216 * (b[3] as u64)
+        + 4_294_967_296 * (b[4] as u64)
+        + 1_099_511_627_776 * (b[5] as u64)
+        + 281_474_976_710_656 * (b[6] as u64)
+        + 72_057_594_037_927_936 * (b[7] as u64)
+}
+
+pub fn put_word(b: &mut [u8], word: u64)
+    requires { ⌜ length (now b) ≡ 64 ⌝ }
+    ensures { λ _. ⌜ now (b .exit) ≡ digits 256 8 word ++ drop 8 (now (b .entry)) ⌝ }
+{
+    let w1 = word / 256;
+    let w2 = w1 / 256;
+    let w3 = w2 / 256;
+    let w4 = w3 / 256;
+    let w5 = w4 / 256;
+    let w6 = w5 / 256;
+    let w7 = w6 / 256;
+    b[0] = (word % 256) as u8;
+    b[1] = (w1 % 256) as u8;
+    b[2] = (w2 % 256) as u8;
+    b[3] = (w3 % 256) as u8;
+    b[4] = (w4 % 256) as u8;
+    b[5] = (w5 % 256) as u8;
+    b[6] = (w6 % 256) as u8;
+    b[7] = (w7 % 256) as u8;
+}
+
+// "The members in a sound bucket are 28 minus the word's leading zeros."
+pub fn occupancy(word: u64) -> usize
+    requires { ⌜ ones word ≡ 36 ⌝ }
+    ensures { λ r. ⌜ (r ≡ length (minisOf word)) × (r ≤ 28) ⌝ }
+{
+    (28 - u64::leading_zeros(word)) as usize
+}
+
+// The place of mini-bucket `mini`'s first bit: behind the end of the one before it.
+fn first_place(word: u64, mini: u32) -> u32
+    requires { ⌜ (ones word ≡ 36) × (mini < 36) ⌝ }
+    ensures { λ r. ⌜ r ≡ mini + below mini (minisOf word) ⌝ }
+{
+    if mini == 0 {
+        return 0;
+    }
+    select::select(word, mini - 1) + 1
+}
+
+// The slots of mini-bucket `mini`: as many as the zeros from its first bit.
+pub fn bounds(word: u64, mini: u32) -> Bounds
+    requires { ⌜ (ones word ≡ 36) × (mini < 36) ⌝ }
+    ensures { λ r. ⌜ (r .from ≡ below mini (minisOf word)) × (r .past ≡ below (suc mini) (minisOf word)) ⌝ }
+{
+    let place = first_place(word, mini);
+    let from = place - mini;
+    let past = from + u64::trailing_zeros(word >> place);
+    Bounds {
+        from: from as usize,
+        past: past as usize,
+    }
+}
+
+// How many slots mini-bucket `mini` has from `slot` on, which is one of its own or the one past them.
+pub fn rest(word: u64, mini: u32, slot: usize) -> usize
+    requires { ⌜ (ones word ≡ 36) × (mini < 36) × (below mini (minisOf word) ≤ slot) × (slot ≤ below (suc mini) (minisOf word)) ⌝ }
+    ensures { λ r. ⌜ slot + r ≡ below (suc mini) (minisOf word) ⌝ }
+{
+    u64::trailing_zeros(word >> (mini + (slot as u32))) as usize
+}
+
+// The word with a zero put in at a place, and with the bit there taken out.
+pub fn open_bit(word: u64, place: u32) -> u64
+    requires { ⌜ (place < 63) × (word < 2 ^ 63) ⌝ }
+    ensures { λ r. ⌜ r ≡ openedAt place word ⌝ }
+{
+    let unit: u64 = 1 << place;
+    word % unit + word / unit * unit * 2
+}
+
+pub fn close_bit(word: u64, place: u32) -> u64
+    requires { ⌜ place < 64 ⌝ }
+    ensures { λ r. ⌜ r ≡ closedAt place word ⌝ }
+{
+    let unit: u64 = 1 << place;
+    word % unit + word / unit / 2 * unit
+}
