@@ -10,21 +10,17 @@ use lib.ListN.{length, take, drop, getD}
 use lib.Seq.{drop-drop}
 use borrow.Rule.Slice.PartMut.{putMid}
 use Rattle.multiset.specs.Multisets.{ascending, allZero, Below}
-use Rattle.multiset.specs.Digits.{joined, spread, value}
+use Rattle.multiset.specs.Digits.{joined, spread}
 use Rattle.crumbmap.specs.Layouts.{layout1, fronts}
 use Rattle.buckets.specs.Buckets.{given, valid, slotKeys, frontMembers, backMembers}
 use Rattle.minifilter.specs.Readings.{readingOf, frontList, backList}
-use Rattle.buckets.specs.Words.{listOf, minisOf}
+use Rattle.buckets.specs.Words.{listOf}
 use Rattle.minifilter.specs.declared.Reading.{Reading}
 use Rattle.buckets.proofs.BucketLaws.{fits1, frontMembers-list, backMembers-list, frontBytes-frontMembers}
 use Rattle.machine.specs.Images.{lengthOf, sizeOf, bucketAt, put, frontAt, backAt}
 use Rattle.image.specs.ImageReads.{sizing, BackIn, FrontSays, BackSays}
 use Rattle.image.specs.declared.Size.the-variants.{Buckets, Wrong}
 use Rattle.machine.proofs.ImageLaws.{length-bucketAt, sizeOf-some, sizeOf-lengthOf}
-use lib.Count.{ones}
-use Rattle.multiset.proofs.DigitLaws.{length-highs}
-use Rattle.minifilter.specs.Searches.{Sound, membersOf, spanOf}
-use Rattle.minifilter.proofs.FindLaws.{held}
 
 pub part-bucket : (i : ℕ) (img : List ℕ) → take (64 * i + 64 - 64 * i) (drop (64 * i) img) ≡ bucketAt i img
 unfolding bucketAt
@@ -115,8 +111,3 @@ module _ (B j y : ℕ) (img : List ℕ) (within : BackIn B j img) (bytes : (i : 
 
   pub back-says : {r : Reading} → r ≡ readingOf y (backMembers layout1 B j (bucketAt (fronts B + j) img)) → BackSays B j y img r
   back-says e = rw e (back-said (backMembers layout1 B j (bucketAt (fronts B + j) img)) refl)
-
--- the word of a sound bucket has 36 ones, and a mini-bucket for each member
-pub held-count : (crumbs : Bool) (b : List ℕ) → Below 256 b → Sound crumbs b
-    → (ones (value 256 (take 8 b)) ≡ 36) × (length (minisOf (value 256 (take 8 b))) ≡ length (membersOf crumbs b))
-held-count crumbs b h s = let m = held crumbs b h s in (m .many, rw (m .minis) (length-highs (spanOf crumbs) (membersOf crumbs b)))

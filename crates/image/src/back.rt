@@ -1,7 +1,8 @@
-// One backyard bucket of an image, and the two of a front bucket: read, searched, listed and written in place.
+// One backyard bucket of an image, and the two of a front bucket: read whole and written in place.
 
 use crate::Behind;
 use crate::Ranked;
+use crate::place::back_bucket;
 use crate::place::table_of;
 use crumbmap::Backyard;
 use crumbmap::Front;
@@ -10,72 +11,23 @@ use crumbmap::map::first_of;
 use crumbmap::map::second_of;
 use edits::edit::insert_back;
 use edits::edit::remove_back;
-use minifilter::Carried;
 use minifilter::Reading;
 use minifilter::find::copies_back;
-use minifilter::find::count_carrying;
-use minifilter::find::first_carrying;
-use minifilter::find::list_back;
-use minifilter::find::list_carrying;
-use minifilter::find::rank_back;
 use minifilter::read::read_back;
-use words::word::occupancy;
-use words::word::word_of;
 ghost use mathlib.Core.Path.{_≡_};
 ghost use Prim.Native.Nat.{_+_, _*_, _<_, _≤_};
 ghost use Rattle.multiset.specs.Multisets.{below, copies, added, removed};
 ghost use Rattle.crumbmap.specs.Layouts.{layout1, keys};
 ghost use Rattle.image.specs.ImageReads.{FrontIn, inBack, BackRead, BehindSays, BackIn, At, BackSays};
 ghost use lib.ListN.{length};
-ghost use Rattle.buckets.specs.Buckets.{carrying};
-ghost use Rattle.minifilter.specs.Readings.{firstOf};
 ghost use Rattle.machine.specs.Images.{putBack};
-ghost use Rattle.image.specs.Listed.{Listed};
 
 // A backyard bucket, read whole, and how many of its members are below one.
 pub fn read_back_at(image: &[u8], size: usize, bucket: Backyard, member: u32) -> Reading
     requires { ⌜ BackIn size (bucket .0) (now image) × (member < keys layout1 * 16) ⌝ }
     ensures { λ r. ⌜ BackSays size (bucket .0) member (now (image .entry)) r ⌝ }
 {
-    let at = 64 * table_of(size, bucket);
-    let end = at + 64;
-    read_back(&image[at..end], size, bucket, member)
-}
-
-// How many members of a sound backyard bucket are below one.
-pub fn rank_back_at(image: &[u8], size: usize, bucket: Backyard, member: u32) -> usize
-    requires { ⌜ BackRead size (bucket .0) (now image) × (member < keys layout1 * 16) ⌝ }
-    ensures { λ r. ⌜ r ≡ below member (inBack size (bucket .0) (now (image .entry))) ⌝ }
-{
-    let at = 64 * table_of(size, bucket);
-    let end = at + 64;
-    rank_back(&image[at..end], member)
-}
-
-// The copies of a member in a sound backyard bucket, from the slot behind the members below it.
-pub fn copies_back_at(
-    image: &[u8],
-    size: usize,
-    bucket: Backyard,
-    slot: usize,
-    member: u32,
-) -> usize
-    requires { ⌜ BackRead size (bucket .0) (now image) × (member < keys layout1 * 16) × (slot ≡ below member (inBack size (bucket .0) (now image))) ⌝ }
-    ensures { λ r. ⌜ r ≡ copies member (inBack size (bucket .0) (now (image .entry))) ⌝ }
-{
-    let at = 64 * table_of(size, bucket);
-    let end = at + 64;
-    copies_back(&image[at..end], slot, member)
-}
-
-// The lowest key that carries a crumb in a sound backyard bucket, and its slot.
-pub fn first_carrying_at(image: &[u8], size: usize, bucket: Backyard, crumb: u32) -> Carried
-    requires { ⌜ BackRead size (bucket .0) (now image) × (crumb < 16) ⌝ }
-    ensures { λ r. ⌜ r ≡ firstOf crumb (inBack size (bucket .0) (now (image .entry))) (carrying crumb (inBack size (bucket .0) (now (image .entry)))) ⌝ }
-{
-    let at = 64 * table_of(size, bucket);
-    let end = at + 64;
-    first_carrying(&image[at..end], crumb)
+    read_back(back_bucket(image, size, bucket), size, bucket, member)
 }
 
 // A member joins a backyard bucket that has a free slot, behind the members below it.
@@ -97,46 +49,6 @@ pub fn remove_back_at(image: &mut [u8], size: usize, bucket: Backyard, slot: usi
     let at = 64 * table_of(size, bucket);
     let end = at + 64;
     remove_back(&mut image[at..end], slot, member);
-}
-
-// How many members a sound backyard bucket holds.
-pub fn count_back_at(image: &[u8], size: usize, bucket: Backyard) -> usize
-    requires { ⌜ BackRead size (bucket .0) (now image) ⌝ }
-    ensures { λ r. ⌜ r ≡ length (inBack size (bucket .0) (now (image .entry))) ⌝ }
-{
-    let at = 64 * table_of(size, bucket);
-    let end = at + 64;
-    occupancy(word_of(&image[at..end]))
-}
-
-// All members of a sound backyard bucket, in order, into the start of `out`; how many.
-pub fn list_back_at(image: &[u8], size: usize, bucket: Backyard, out: &mut [u32]) -> usize
-    requires { ⌜ BackRead size (bucket .0) (now image) × (length (now out) ≡ 22) ⌝ }
-    ensures { λ r. ⌜ Listed (inBack size (bucket .0) (now (image .entry))) (now (out .entry)) r (now (out .exit)) ⌝ }
-{
-    let at = 64 * table_of(size, bucket);
-    let end = at + 64;
-    list_back(&image[at..end], out)
-}
-
-// The keys that carry a crumb in a sound backyard bucket, in order, into the start of `out`; how many.
-pub fn list_carrying_at(image: &[u8], size: usize, way: Overflow, out: &mut [u32]) -> usize
-    requires { ⌜ BackRead size (way .bucket .0) (now image) × (way .crumb < 16) × (length (now out) ≡ 22) ⌝ }
-    ensures { λ r. ⌜ Listed (carrying (way .crumb) (inBack size (way .bucket .0) (now (image .entry)))) (now (out .entry)) r (now (out .exit)) ⌝ }
-{
-    let at = 64 * table_of(size, way.bucket);
-    let end = at + 64;
-    list_carrying(&image[at..end], way.crumb, out)
-}
-
-// How many they are.
-pub fn count_carrying_at(image: &[u8], size: usize, way: Overflow) -> usize
-    requires { ⌜ BackRead size (way .bucket .0) (now image) × (way .crumb < 16) ⌝ }
-    ensures { λ r. ⌜ (r ≡ length (carrying (way .crumb) (inBack size (way .bucket .0) (now (image .entry))))) × (r ≤ 22) ⌝ }
-{
-    let at = 64 * table_of(size, way.bucket);
-    let end = at + 64;
-    count_carrying(&image[at..end], way.crumb)
 }
 
 // How many members b0 and b1 hold, and how many are below a key with the crumb that it carries there.
@@ -172,5 +84,6 @@ pub fn copies_at(image: &[u8], size: usize, way: Overflow, slot: usize, key: u32
         × (slot ≡ below (key * 16 + way .crumb) (inBack size (way .bucket .0) (now image))) ⌝ }
     ensures { λ r. ⌜ (r ≡ copies (key * 16 + way .crumb) (inBack size (way .bucket .0) (now (image .entry)))) × (r ≤ 22) ⌝ }
 {
-    copies_back_at(image, size, way.bucket, slot, key * 16 + way.crumb)
+    let b = back_bucket(image, size, way.bucket);
+    copies_back(b, slot, key * 16 + way.crumb)
 }

@@ -1,69 +1,28 @@
-// One front bucket of an image: read, searched, listed and written in place.
+// One front bucket of an image: read whole and written in place.
 
+use crate::place::bucket;
 use crumbmap::Front;
 use edits::edit::insert_front;
 use edits::edit::remove_front;
 use edits::write::write_front;
 use minifilter::Reading;
-use minifilter::find::copies_front;
-use minifilter::find::largest_front;
-use minifilter::find::list_front;
-use minifilter::find::rank_front;
+use minifilter::find::count_front;
 use minifilter::read::read_front;
-use words::word::occupancy;
-use words::word::word_of;
 ghost use mathlib.Core.Path.{_≡_};
 ghost use Prim.Native.Nat.{_+_, _*_, _<_, _≤_};
 ghost use lib.ListN.{length};
-ghost use Rattle.multiset.specs.Multisets.{added, removed, below, copies, largest};
+ghost use Rattle.multiset.specs.Multisets.{added, removed, below};
 ghost use Rattle.crumbmap.specs.Layouts.{layout1, keys};
 ghost use Rattle.buckets.specs.Buckets.{FrontList};
 ghost use Rattle.machine.specs.Images.{put, putFront};
 ghost use Rattle.image.specs.ImageReads.{inFront, FrontRead, At, FrontSays, served};
-ghost use Rattle.image.specs.Listed.{Listed};
 
 // A front bucket, read whole, and how many of its members are below a key.
 pub fn read_front_at(image: &[u8], front: Front, key: u32) -> Reading
     requires { ⌜ (64 * front .0 + 64 ≤ length (now image)) × (key < keys layout1) ⌝ }
     ensures { λ r. ⌜ FrontSays (front .0) key (now (image .entry)) r ⌝ }
 {
-    let f = front.0;
-    let at = 64 * f;
-    let end = at + 64;
-    read_front(&image[at..end], key)
-}
-
-// How many members of a sound front bucket are below a key.
-pub fn rank_front_at(image: &[u8], front: Front, key: u32) -> usize
-    requires { ⌜ FrontRead (front .0) (now image) × (key < keys layout1) ⌝ }
-    ensures { λ r. ⌜ r ≡ below key (inFront (front .0) (now (image .entry))) ⌝ }
-{
-    let f = front.0;
-    let at = 64 * f;
-    let end = at + 64;
-    rank_front(&image[at..end], key)
-}
-
-// The copies of a key in a sound front bucket, from the slot behind the members below it.
-pub fn copies_front_at(image: &[u8], front: Front, slot: usize, key: u32) -> usize
-    requires { ⌜ FrontRead (front .0) (now image) × (key < keys layout1) × (slot ≡ below key (inFront (front .0) (now image))) ⌝ }
-    ensures { λ r. ⌜ r ≡ copies key (inFront (front .0) (now (image .entry))) ⌝ }
-{
-    let f = front.0;
-    let at = 64 * f;
-    let end = at + 64;
-    copies_front(&image[at..end], slot, key)
-}
-
-// The largest key of a sound front bucket that holds 28.
-pub fn largest_front_at(image: &[u8], front: Front) -> u32
-    requires { ⌜ FrontRead (front .0) (now image) × (length (inFront (front .0) (now image)) ≡ 28) ⌝ }
-    ensures { λ r. ⌜ r ≡ largest (inFront (front .0) (now (image .entry))) ⌝ }
-{
-    let f = front.0;
-    let at = 64 * f;
-    let end = at + 64;
-    largest_front(&image[at..end])
+    read_front(bucket(image, front.0), key)
 }
 
 // A key joins a front bucket that has a free slot, behind the members below it.
@@ -110,40 +69,16 @@ pub fn fill_front_at(image: &mut [u8], front: Front, keys: &[u32])
     write_front(&mut image[at..end], keys);
 }
 
-// How many members a sound front bucket holds.
-pub fn count_front_at(image: &[u8], front: Front) -> usize
-    requires { ⌜ FrontRead (front .0) (now image) ⌝ }
-    ensures { λ r. ⌜ r ≡ length (inFront (front .0) (now (image .entry))) ⌝ }
-{
-    let f = front.0;
-    let at = 64 * f;
-    let end = at + 64;
-    occupancy(word_of(&image[at..end]))
-}
-
-// The keys of a sound front bucket, in order, into the start of `out`; how many.
-pub fn list_front_at(image: &[u8], front: Front, out: &mut [u32]) -> usize
-    requires { ⌜ FrontRead (front .0) (now image) × (length (now out) ≡ 28) ⌝ }
-    ensures { λ r. ⌜ Listed (inFront (front .0) (now (image .entry))) (now (out .entry)) r (now (out .exit)) ⌝ }
-{
-    let f = front.0;
-    let at = 64 * f;
-    let end = at + 64;
-    list_front(&image[at..end], out)
-}
-
 // The bytes of whichever of two sound front buckets has members, the first's where it has any.
 pub fn whichever<'a>(first: &'a [u8], second: &'a [u8], front: Front) -> &'a [u8]
     requires { ⌜ FrontRead (front .0) (now first) × FrontRead (front .0) (now second) ⌝ }
     ensures { λ r. ⌜ (now r ≡ served (front .0) (now (first .entry)) (now (second .entry))) × (length (now r) ≡ 64) ⌝ }
 {
-    let f = front.0;
-    let at = 64 * f;
-    let end = at + 64;
-    if count_front_at(first, front) == 0 {
-        &second[at..end]
+    let mine = bucket(first, front.0);
+    if count_front(mine) == 0 {
+        bucket(second, front.0)
     } else {
-        &first[at..end]
+        mine
     }
 }
 

@@ -1,4 +1,5 @@
-// Where a bucket of an image stands: the image's size, what a hash names in it, and the table number of a backyard bucket.
+// Where a bucket of an image stands: the image's size, what a hash names in it, a backyard bucket's table number, and the 64 bytes of a bucket.
+// Whoever reads a bucket gets its bytes here.
 
 use crate::Located;
 use crate::Size;
@@ -9,8 +10,9 @@ use crumbmap::fingerprint::key_of;
 ghost use mathlib.Core.Path.{_≡_};
 ghost use Prim.Native.Nat.{_+_, _*_, _<_, _≤_};
 ghost use Rattle.crumbmap.specs.Layouts.{fronts, backyards};
-ghost use Rattle.machine.specs.Images.{sizeOf};
-ghost use Rattle.image.specs.ImageReads.{sizing, LocatedIn, At};
+ghost use lib.ListN.{length};
+ghost use Rattle.machine.specs.Images.{sizeOf, bucketAt};
+ghost use Rattle.image.specs.ImageReads.{sizing, LocatedIn, BackIn};
 
 // "A lent byte slice of 576 × B + 448 bytes, B from 1 to 65,536."
 pub fn size_of(len: usize) -> Size
@@ -51,4 +53,22 @@ pub fn table_of(size: usize, bucket: Backyard) -> usize
 {
     let j = bucket.0;
     8 * size + j
+}
+
+// "Each bucket is worked on as a 64-byte stretch inside the image": the bytes of the bucket of a table number, to be read.
+pub fn bucket(image: &[u8], table: usize) -> &[u8]
+    requires { ⌜ 64 * table + 64 ≤ length (now image) ⌝ }
+    ensures { λ r. ⌜ (now r ≡ bucketAt table (now (image .entry))) × (length (now r) ≡ 64) ⌝ }
+{
+    let at = 64 * table;
+    let end = at + 64;
+    &image[at..end]
+}
+
+// The bytes of backyard bucket `j`.
+pub fn back_bucket(image: &[u8], size: usize, j: Backyard) -> &[u8]
+    requires { ⌜ BackIn size (j .0) (now image) ⌝ }
+    ensures { λ r. ⌜ (now r ≡ bucketAt (fronts size + j .0) (now (image .entry))) × (length (now r) ≡ 64) ⌝ }
+{
+    bucket(image, table_of(size, j))
 }

@@ -243,6 +243,11 @@ pub held : (crumbs : Bool) (b : List ℕ) → Below 256 b → Sound crumbs b →
 held false b bytes s = rw (front-bytes b bytes s) at (held-front (frontList b) (front-list b bytes s))
 held true b bytes s = rw (back-bytes b bytes s) at (held-back (s .size) (s .bucket) (backList b) (back-list b bytes s))
 
+-- the word of a sound bucket has 36 ones, and a mini-bucket for each member
+pub held-count : (crumbs : Bool) (b : List ℕ) → Below 256 b → Sound crumbs b
+    → (ones (value 256 (take 8 b)) ≡ 36) × (length (minisOf (value 256 (take 8 b))) ≡ length (membersOf crumbs b))
+held-count crumbs b h s = let m = held crumbs b h s in (m .many, rw (m .minis) (length-highs (spanOf crumbs) (membersOf crumbs b)))
+
 -- ---- the slot of a member
 
 -- a slot with smaller members in front of it and none from it on

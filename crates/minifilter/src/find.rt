@@ -95,6 +95,21 @@ pub fn copies_back(b: &[u8], slot: usize, member: u32) -> usize
     copies_in(b, true, slot, member / 1_048_576, member % 1_048_576)
 }
 
+// How many members a bucket holds, front or backyard.
+pub fn count_front(b: &[u8]) -> usize
+    requires { ⌜ SoundFront (now b) ⌝ }
+    ensures { λ r. ⌜ r ≡ length (frontList (now (b .entry))) ⌝ }
+{
+    word::occupancy(word::word_of(b))
+}
+
+pub fn count_back(b: &[u8]) -> usize
+    requires { ⌜ SoundBack (now b) ⌝ }
+    ensures { λ r. ⌜ r ≡ length (backList (now (b .entry))) ⌝ }
+{
+    word::occupancy(word::word_of(b))
+}
+
 // The largest key of a front bucket that holds 28: above its zero the word has ones alone, one for each mini-bucket from its own on.
 pub fn largest_front(b: &[u8]) -> u32
     requires { ⌜ SoundFront (now b) × (length (frontList (now b)) ≡ 28) ⌝ }

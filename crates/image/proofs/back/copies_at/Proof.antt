@@ -1,31 +1,36 @@
--- `image::back::copies_at` meets its contract. The copies of a member in the bucket, at most its 22 slots.
+-- `image::back::copies_at` meets its contract: the copies of a member in the bucket, at most its 22 slots.
 use Prim.Native.Nat.{_+_, _*_}
 use native.Mathlib.Omega.{arith}
-use borrow.Author.Needs.{needs}
 use Rattle.multiset.proofs.MultisetLaws.{copies-le-length}
 use Rattle.image.specs.ImageReads.{inBack}
+use borrow.Author.Needs.{needs}
 use Rattle.image.proofs.back.copies_at.Statement.{statement}
 use Rattle.image.proofs.back.copies_at.Tie as tie
 
-mul-copies-back-at : tie.Need-mul-copies-back-at
-mul-copies-back-at c = search needs
+back-bucket-requires : tie.Need-back-bucket-requires
+back-bucket-requires c κs = search needs
 
-add-copies-back-at : tie.Need-add-copies-back-at
-add-copies-back-at c = search needs
+mul-copies-back : tie.Need-mul-copies-back
+mul-copies-back c = search needs
 
-copies-back-at-requires : tie.Need-copies-back-at-requires
-copies-back-at-requires c κs = search needs
+add-copies-back : tie.Need-add-copies-back
+add-copies-back c = search needs
+
+copies-back-requires : tie.Need-copies-back-requires
+copies-back-requires c κs =
+    let p = c .before .before .before .pre in
+    rw (c .before .back-bucket .ensures .0) (p .0 .sound, search needs, p .3)
 
 returns : tie.Need-returns
 returns c =
-    let s = c .before .before .before in
-    let img = s .args .image .now in
-    let ys = inBack (s .args .size) (s .args .way .bucket .0) img in
-    let m = c .copies-back-at .ensures in (
+    let s = c .before .before .before .before in
+    let a = s .args in
+    let m = rw (c .before .before .back-bucket .ensures .0) at (c .copies-back .ensures) in (
       m,
-      omega (arith, m, s .pre .0 .list .room, copies-le-length (s .args .key * 16 + s .args .way .crumb) ys),
+      omega (arith, m, s .pre .0 .list .room, copies-le-length (a .key * 16 + a .way .crumb) (inBack (a .size) (a .way .bucket .0) (a .image .now))),
     )
 
 pub copies-at-spec : {M : Type 1} → statement M
 copies-at-spec =
-    tie.close (tie.spec mul-copies-back-at add-copies-back-at copies-back-at-requires returns)
+    tie.close
+    (tie.spec back-bucket-requires mul-copies-back add-copies-back copies-back-requires returns)

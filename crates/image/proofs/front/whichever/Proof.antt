@@ -1,74 +1,39 @@
--- The 64 bytes that are lent are those of the front bucket that has members.
-use mathlib.Core.Path.{sym, _∙_}
+-- `image::front::whichever` meets its contract: the 64 bytes that are lent are those of the front bucket that has members.
+use mathlib.Core.Path.{_≡_, sym, _∙_}
 use lib.ListN.{length}
 use borrow.Author.Tests.{eq-eqb, ne-eqb}
-use Rattle.image.specs.ImageReads.{inFront}
-use Rattle.image.specs.ImageReads.{served}
-use Rattle.machine.proofs.ImageLaws.{length-bucketAt}
-use Rattle.image.proofs.PartLaws.{part-bucket}
+use Rattle.image.specs.ImageReads.{inFront, served}
 use borrow.Author.Needs.{needs}
 use Rattle.image.proofs.front.whichever.Statement.{statement}
 use Rattle.image.proofs.front.whichever.Tie as tie
 
-mul-at : tie.Need-mul-at
-mul-at c = search needs
+bucket-requires : tie.Need-bucket-requires
+bucket-requires c κs = search needs
 
-add-end : tie.Need-add-end
-add-end c = search needs
+count-front-requires : tie.Need-count-front-requires
+count-front-requires c κs = rw (c .bucket .ensures .0) (c .before .before .before .pre .0 .sound)
 
-count-front-at-requires : tie.Need-count-front-at-requires
-count-front-at-requires c κs = search needs
-
-sub-result : tie.Need-sub-result
-sub-result c = search needs
-
-part-result-start : tie.Need-part-result-start
-part-result-start c = search needs
-
-part-result-end : tie.Need-part-result-end
-part-result-end c = search needs
-
-sub-result-2 : tie.Need-sub-result-2
-sub-result-2 c = search needs
-
-part-result-start-2 : tie.Need-part-result-start-2
-part-result-start-2 c = search needs
-
-part-result-end-2 : tie.Need-part-result-end-2
-part-result-end-2 c = search needs
+bucket-requires-2 : tie.Need-bucket-requires-2
+bucket-requires-2 c κs = search needs
 
 returns : tie.Need-returns
 unfolding served
 returns c =
-    let s = c .before .before .before .before .before in
-    let a = s .args in (
-      part-bucket (a .front .0) (a .second .now)
-          ∙ rw (eq-eqb (length (inFront (a .front .0) (a .first .now))) 0 (sym (c .before .before .count-front-at .ensures) ∙ c .before .if1 .taken)),
-      rw part-bucket (length-bucketAt (a .front .0) (a .second .now) (s .pre .1 .inside)),
-    )
+    let a = c .before .before .before .before .before .before .args in
+    let b = c .before .before .before .bucket in
+    let n : c .before .before .count-front .result ≡ length (inFront (a .front .0) (a .first .now)) =
+    rw (b .ensures .0) at (c .before .before .count-front .ensures) in
+    (c .bucket2 .ensures .0 ∙ rw (eq-eqb (length (inFront (a .front .0) (a .first .now))) 0 (sym n ∙ c .before .if1 .taken)), c .bucket2 .ensures .1)
 
 returns-2 : tie.Need-returns-2
 unfolding served
 returns-2 c =
-    let s = c .before .before .before .before .before in
-    let a = s .args in (
-      part-bucket (a .front .0) (a .first .now)
-          ∙ rw (ne-eqb (length (inFront (a .front .0) (a .first .now))) 0 (λ e. c .before .if1 .left (c .before .before .count-front-at .ensures ∙ e))),
-      rw part-bucket (length-bucketAt (a .front .0) (a .first .now) (s .pre .0 .inside)),
-    )
+    let a = c .before .before .before .before .before .args in
+    let b = c .before .before .bucket in
+    let n : c .before .count-front .result ≡ length (inFront (a .front .0) (a .first .now)) =
+    rw (b .ensures .0) at (c .before .count-front .ensures) in
+    (b .ensures .0 ∙ rw (ne-eqb (length (inFront (a .front .0) (a .first .now))) 0 (λ e. c .if1 .left (n ∙ e))), b .ensures .1)
 
 pub whichever-spec : {M : Type 1} → statement M
 whichever-spec =
-    tie.close
-    (tie.spec
-    mul-at
-    add-end
-    count-front-at-requires
-    sub-result
-    part-result-start
-    part-result-end
-    sub-result-2
-    part-result-start-2
-    part-result-end-2
-    returns
-    returns-2)
+    tie.close (tie.spec bucket-requires count-front-requires bucket-requires-2 returns returns-2)
