@@ -10,14 +10,16 @@ use crumbmap::map::first_of;
 use crumbmap::map::second_of;
 use image::Located;
 use image::Target;
-use image::back::copies_back_at;
 use image::back::read_back_at;
-use image::front::copies_front_at;
-use image::front::largest_front_at;
 use image::front::read_front_at;
+use image::place::back_bucket;
+use image::place::bucket;
 use image::place::locate;
 use image::place::table_of;
 use minifilter::Reading;
+use minifilter::find::copies_back;
+use minifilter::find::copies_front;
+use minifilter::find::largest_front;
 ghost use mathlib.Core.Path.{_≡_};
 ghost use Prim.Native.Nat.{_+_, _*_, _<_};
 ghost use Rattle.crumbmap.specs.Layouts.{layout1, keys};
@@ -48,7 +50,8 @@ fn ask_front(image: &[u8], target: Target) -> Answer
     let Reading::Members(n, slot) = read_front_at(image, front, key) else {
         return Answer::Refused(Refusal::Unsound(front.0));
     };
-    if 0 < copies_front_at(image, front, slot, key) {
+    let b = bucket(image, front.0);
+    if 0 < copies_front(b, slot, key) {
         return Answer::Accepted(Asked {
             reads: 1,
             place: Place::Front(slot),
@@ -57,7 +60,7 @@ fn ask_front(image: &[u8], target: Target) -> Answer
     if n < 28 {
         return none_in(1);
     }
-    if key <= largest_front_at(image, front) {
+    if key <= largest_front(b) {
         return none_in(1);
     }
     ask_behind(image, target)
@@ -98,7 +101,7 @@ fn seek(image: &[u8], size: usize, way: Overflow, key: u32) -> Sought
     let Reading::Members(_, slot) = read_back_at(image, size, bucket, member) else {
         return Sought::Unsound(table_of(size, bucket));
     };
-    if 0 < copies_back_at(image, size, bucket, slot, member) {
+    if 0 < copies_back(back_bucket(image, size, bucket), slot, member) {
         Sought::At(slot)
     } else {
         Sought::Absent

@@ -10,11 +10,12 @@ use image::Located;
 use image::Target;
 use image::back::copies_at;
 use image::back::read_behind;
-use image::front::copies_front_at;
-use image::front::largest_front_at;
 use image::front::read_front_at;
+use image::place::bucket;
 use image::place::locate;
 use minifilter::Reading;
+use minifilter::find::copies_front;
+use minifilter::find::largest_front;
 ghost use mathlib.Core.Path.{_≡_};
 ghost use Rattle.crumbmap.specs.Layouts.{layout1};
 ghost use Rattle.machine.specs.Machine.{countAt};
@@ -43,11 +44,12 @@ fn count_front(image: &[u8], target: Target) -> Tally
     let Reading::Members(n, slot) = read_front_at(image, front, key) else {
         return Tally::Refused(Refusal::Unsound(front.0));
     };
-    let copies = copies_front_at(image, front, slot, key);
+    let b = bucket(image, front.0);
+    let copies = copies_front(b, slot, key);
     if n < 28 {
         return Tally::Accepted(Counted { copies, reads: 1 });
     }
-    if key < largest_front_at(image, front) {
+    if key < largest_front(b) {
         return Tally::Accepted(Counted { copies, reads: 1 });
     }
     count_behind(image, target, copies)

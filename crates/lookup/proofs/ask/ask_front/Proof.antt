@@ -5,7 +5,7 @@ use lib.ListN.{length}
 use borrow.Author.Needs.{needs}
 use borrow.Author.Tests.{ne-eqb, eq-eqb, le-ltb}
 use Rattle.multiset.proofs.MultisetLaws.{slotOf-some, slotOf-none}
-use Rattle.multiset.specs.Multisets.{below, largest}
+use Rattle.multiset.specs.Multisets.{below, copies, largest}
 use Rattle.machine.specs.Machine.{askAt}
 use Rattle.image.specs.ImageReads.{inFront, FrontRead}
 use Rattle.image.proofs.ImageReadLaws.{front-in, front-read, front-full, front-unsound}
@@ -38,17 +38,29 @@ front c =
     let a = c3 .before .before .before .args in
     front-read (a .target .front .0) (a .target .key) (a .image .now) (c3 .read-front-at .ensures) (c .before .n .given .1)
 
-copies-front-at-requires : tie.Need-copies-front-at-requires
-copies-front-at-requires c κs = (front c .0, c .before .before .before .before .before .before .pre .key, front c .2)
+bucket-requires : tie.Need-bucket-requires
+bucket-requires c κs = front c .0 .inside
+
+copies-front-requires : tie.Need-copies-front-requires
+copies-front-requires c κs =
+    let r = front (c .before) in
+    rw (c .bucket .ensures .0) (r .0 .sound, c .before .before .before .before .before .before .before .pre .key, r .2)
+
+-- the copies in front
+here : (c : tie.After-copies-front) →
+    let a = c .before .before .before .before .before .before .before .before .args in
+    c .copies-front .result ≡ copies (a .target .key) (inFront (a .target .front .0) (a .image .now))
+here c = rw (c .before .bucket .ensures .0) at (c .copies-front .ensures)
 
 returns-2 : tie.Need-returns-2
 unfolding askAt
 returns-2 c =
-    let c2 = c .before .before in
-    let a = c2 .before .before .before .before .before .before .args in
-    let r = front c2 in
+    let c1 = c .before in
+    let c3 = c1 .before .before in
+    let a = c3 .before .before .before .before .before .before .args in
+    let r = front c3 in
     let xs = inFront (a .target .front .0) (a .image .now) in
-    rw (r .2, r .0 .accepts, slotOf-some (a .target .key) xs (r .0 .list .order) (omega (arith, c .before .copies-front-at .ensures)))
+    rw (r .2, r .0 .accepts, slotOf-some (a .target .key) xs (r .0 .list .order) (omega (arith, here c1)))
 
 none-in-requires : tie.Need-none-in-requires
 none-in-requires c κs = search needs
@@ -57,20 +69,27 @@ returns-3 : tie.Need-returns-3
 unfolding askAt
 returns-3 c =
     let c3 = c .before .before .before in
-    let c4 = c3 .before in
-    let a = c4 .before .before .before .before .before .before .args in
-    let r = front c4 in
+    let c5 = c3 .before .before in
+    let a = c5 .before .before .before .before .before .before .args in
+    let r = front c5 in
     let xs = inFront (a .target .front .0) (a .image .now) in
     c .none-in .ensures ∙ rw (
       r .0 .accepts,
-      slotOf-none (a .target .key) xs (omega (arith, c3 .copies-front-at .ensures)),
+      slotOf-none (a .target .key) xs (omega (arith, here c3)),
       ne-eqb (length xs) 28 (λ e. omega (arith, r .1)),
     )
 
-largest-front-at-requires : tie.Need-largest-front-at-requires
-largest-front-at-requires c κs =
-    let r = front (c .before .before .before) in
-    (r .0, omega (arith, r .0 .list .room, r .1))
+largest-front-requires : tie.Need-largest-front-requires
+largest-front-requires c κs =
+    let c3 = c .before .before .before in
+    let r = front (c3 .before) in
+    rw (c3 .bucket .ensures .0) (r .0 .sound, omega (arith, r .0 .list .room, r .1))
+
+-- the largest in front
+top : (c : tie.After-largest-front) →
+    let a = c .before .before .before .before .before .before .before .before .before .before .before .args in
+    c .largest-front .result ≡ largest (inFront (a .target .front .0) (a .image .now))
+top c = rw (c .before .before .before .before .bucket .ensures .0) at (c .largest-front .ensures)
 
 none-in-requires-2 : tie.Need-none-in-requires-2
 none-in-requires-2 c κs = search needs
@@ -80,24 +99,25 @@ unfolding askAt
 returns-4 c =
     let c2 = c .before .before in
     let c5 = c2 .before .before .before in
-    let c6 = c5 .before in
-    let a = c6 .before .before .before .before .before .before .args in
-    let r = front c6 in
+    let c7 = c5 .before .before in
+    let a = c7 .before .before .before .before .before .before .args in
+    let r = front c7 in
     let xs = inFront (a .target .front .0) (a .image .now) in
     c .none-in2 .ensures ∙ rw (
       r .0 .accepts,
-      slotOf-none (a .target .key) xs (omega (arith, c5 .copies-front-at .ensures)),
+      slotOf-none (a .target .key) xs (omega (arith, here c5)),
       eq-eqb (length xs) 28 (omega (arith, r .0 .list .room, r .1)),
-      le-ltb (largest xs) (a .target .key) (omega (arith, c2 .largest-front-at .ensures)),
+      le-ltb (largest xs) (a .target .key) (omega (arith, top c2)),
     )
 
 ask-behind-requires : tie.Need-ask-behind-requires
 ask-behind-requires c κs =
-    let c5 = c .before .before .before .before .before in
-    let s = c5 .before .before .before .before .before .before in
-    let r = front c5 in (
+    let c1 = c .before in
+    let c6 = c1 .before .before .before .before .before in
+    let s = c6 .before .before .before .before .before .before in
+    let r = front c6 in (
       s .pre,
-      record { whole = front-full (r .0) (r .1) (omega arith); over = omega (arith, c .before .largest-front-at .ensures) },
+      record { whole = front-full (r .0) (r .1) (omega arith); over = omega (arith, top c1) },
     )
 
 returns-5 : tie.Need-returns-5
@@ -111,11 +131,12 @@ ask-front-spec =
     enum-known-n
     enum-told
     returns
-    copies-front-at-requires
+    bucket-requires
+    copies-front-requires
     returns-2
     none-in-requires
     returns-3
-    largest-front-at-requires
+    largest-front-requires
     none-in-requires-2
     returns-4
     ask-behind-requires

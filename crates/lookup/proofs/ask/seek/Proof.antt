@@ -3,7 +3,7 @@ use mathlib.Core.Path.{_≡_}
 use Prim.Native.Nat.{_+_, _*_}
 use native.Mathlib.Omega.{arith}
 use borrow.Author.Needs.{needs}
-use Rattle.multiset.specs.Multisets.{below}
+use Rattle.multiset.specs.Multisets.{below, copies}
 use Rattle.multiset.proofs.MultisetLaws.{slotOf-some, slotOf-none}
 use Rattle.image.specs.ImageReads.{inBack, BackRead}
 use Rattle.image.proofs.ImageReadLaws.{back-read, back-unsound}
@@ -51,25 +51,35 @@ back c =
     (c .before .slot .given .1) in
     (r .0, r .2)
 
-copies-back-at-requires : tie.Need-copies-back-at-requires
-copies-back-at-requires c κs =
-    let s = c .before .before .before .before .before .before .before in
-    (back c .0, omega (arith, s .pre .1, s .pre .2), back c .1)
+back-bucket-requires : tie.Need-back-bucket-requires
+back-bucket-requires c κs = back c .0 .within
+
+copies-back-requires : tie.Need-copies-back-requires
+copies-back-requires c κs =
+    let c1 = c .before in
+    let s = c1 .before .before .before .before .before .before .before in
+    rw (c .back-bucket .ensures .0) (back c1 .0 .sound, omega (arith, s .pre .1, s .pre .2), back c1 .1)
+
+-- the copies in that bucket
+here : (c : tie.After-copies-back) →
+    let a = c .before .before .before .before .before .before .before .before .before .args in
+    c .copies-back .result ≡ copies (a .key * 16 + a .way .crumb) (inBack (a .size) (a .way .bucket .0) (a .image .now))
+here c = rw (c .before .back-bucket .ensures .0) at (c .copies-back .ensures)
 
 returns-2 : tie.Need-returns-2
 returns-2 c =
-    let c2 = c .before .before in
-    let a = c2 .before .before .before .before .before .before .before .args in
-    let r = back c2 in
+    let c3 = c .before .before .before in
+    let a = c3 .before .before .before .before .before .before .before .args in
+    let r = back c3 in
     let ys = inBack (a .size) (a .way .bucket .0) (a .image .now) in
-    rw (r .1, r .0 .accepts, slotOf-some (a .key * 16 + a .way .crumb) ys (r .0 .list .order) (omega (arith, c .before .copies-back-at .ensures)))
+    rw (r .1, r .0 .accepts, slotOf-some (a .key * 16 + a .way .crumb) ys (r .0 .list .order) (omega (arith, here (c .before))))
 
 returns-3 : tie.Need-returns-3
 returns-3 c =
-    let c2 = c .before .before in
-    let a = c2 .before .before .before .before .before .before .before .args in
+    let c3 = c .before .before .before in
+    let a = c3 .before .before .before .before .before .before .before .args in
     let ys = inBack (a .size) (a .way .bucket .0) (a .image .now) in
-    rw (back c2 .0 .accepts, slotOf-none (a .key * 16 + a .way .crumb) ys (omega (arith, c .before .copies-back-at .ensures)))
+    rw (back c3 .0 .accepts, slotOf-none (a .key * 16 + a .way .crumb) ys (omega (arith, here (c .before))))
 
 pub seek-spec : {M : Type 1} → statement M
 seek-spec =
@@ -82,6 +92,7 @@ seek-spec =
     enum-told
     table-of-requires
     returns
-    copies-back-at-requires
+    back-bucket-requires
+    copies-back-requires
     returns-2
     returns-3)

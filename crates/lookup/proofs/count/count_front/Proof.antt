@@ -4,7 +4,7 @@ use native.Mathlib.Omega.{arith}
 use lib.ListN.{length}
 use borrow.Author.Needs.{needs}
 use borrow.Author.Tests.{ne-eqb, eq-eqb, lt-leb}
-use Rattle.multiset.specs.Multisets.{below, largest}
+use Rattle.multiset.specs.Multisets.{below, copies, largest}
 use Rattle.machine.specs.Machine.{countAt}
 use Rattle.image.specs.ImageReads.{inFront, FrontRead}
 use Rattle.image.proofs.ImageReadLaws.{front-in, front-read, front-full, front-unsound}
@@ -37,49 +37,68 @@ front c =
     let a = c3 .before .before .before .args in
     front-read (a .target .front .0) (a .target .key) (a .image .now) (c3 .read-front-at .ensures) (c .before .n .given .1)
 
-copies-front-at-requires : tie.Need-copies-front-at-requires
-copies-front-at-requires c κs = (front c .0, c .before .before .before .before .before .before .pre .key, front c .2)
+bucket-requires : tie.Need-bucket-requires
+bucket-requires c κs = front c .0 .inside
+
+copies-front-requires : tie.Need-copies-front-requires
+copies-front-requires c κs =
+    let r = front (c .before) in
+    rw (c .bucket .ensures .0) (r .0 .sound, c .before .before .before .before .before .before .before .pre .key, r .2)
+
+-- the copies in front
+here : (c : tie.After-copies-front) →
+    let a = c .before .before .before .before .before .before .before .before .args in
+    c .copies-front .result ≡ copies (a .target .key) (inFront (a .target .front .0) (a .image .now))
+here c = rw (c .before .bucket .ensures .0) at (c .copies-front .ensures)
 
 returns-2 : tie.Need-returns-2
 unfolding countAt
 returns-2 c =
-    let c2 = c .before .before in
-    let a = c2 .before .before .before .before .before .before .args in
-    let r = front c2 in
+    let c1 = c .before in
+    let c3 = c1 .before .before in
+    let a = c3 .before .before .before .before .before .before .args in
+    let r = front c3 in
     let xs = inFront (a .target .front .0) (a .image .now) in
-    rw (c .before .copies-front-at .ensures, r .0 .accepts, ne-eqb (length xs) 28 (λ e. omega (arith, r .1)))
+    rw (here c1, r .0 .accepts, ne-eqb (length xs) 28 (λ e. omega (arith, r .1)))
 
-largest-front-at-requires : tie.Need-largest-front-at-requires
-largest-front-at-requires c κs =
-    let r = front (c .before .before) in
-    (r .0, omega (arith, r .0 .list .room, r .1))
+largest-front-requires : tie.Need-largest-front-requires
+largest-front-requires c κs =
+    let c2 = c .before .before in
+    let r = front (c2 .before) in
+    rw (c2 .bucket .ensures .0) (r .0 .sound, omega (arith, r .0 .list .room, r .1))
+
+-- the largest in front
+top : (c : tie.After-largest-front) →
+    let a = c .before .before .before .before .before .before .before .before .before .before .args in
+    c .largest-front .result ≡ largest (inFront (a .target .front .0) (a .image .now))
+top c = rw (c .before .before .before .bucket .ensures .0) at (c .largest-front .ensures)
 
 returns-3 : tie.Need-returns-3
 unfolding countAt
 returns-3 c =
     let c3 = c .before .before .before in
-    let c4 = c3 .before in
-    let a = c4 .before .before .before .before .before .before .args in
-    let r = front c4 in
+    let c5 = c3 .before .before in
+    let a = c5 .before .before .before .before .before .before .args in
+    let r = front c5 in
     let xs = inFront (a .target .front .0) (a .image .now) in
     rw (
-      c3 .copies-front-at .ensures,
+      here c3,
       r .0 .accepts,
       eq-eqb (length xs) 28 (omega (arith, r .0 .list .room, r .1)),
-      lt-leb (largest xs) (a .target .key) (omega (arith, c .before .largest-front-at .ensures)),
+      lt-leb (largest xs) (a .target .key) (omega (arith, top (c .before))),
     )
 
 count-behind-requires : tie.Need-count-behind-requires
 count-behind-requires c κs =
     let c3 = c .before .before .before in
-    let c4 = c3 .before in
-    let s = c4 .before .before .before .before .before .before in
-    let r = front c4 in
+    let c5 = c3 .before .before in
+    let s = c5 .before .before .before .before .before .before in
+    let r = front c5 in
     record {
       placed = s .pre;
       whole = front-full (r .0) (r .1) (omega arith);
-      reach = omega (arith, c .before .largest-front-at .ensures);
-      many = c3 .copies-front-at .ensures;
+      reach = omega (arith, top (c .before));
+      many = here c3;
     }
 
 returns-4 : tie.Need-returns-4
@@ -93,9 +112,10 @@ count-front-spec =
     enum-known-n
     enum-told
     returns
-    copies-front-at-requires
+    bucket-requires
+    copies-front-requires
     returns-2
-    largest-front-at-requires
+    largest-front-requires
     returns-3
     count-behind-requires
     returns-4)
