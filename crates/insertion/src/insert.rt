@@ -13,11 +13,12 @@ use image::Target;
 use image::back::insert_back_at;
 use image::back::read_behind;
 use image::front::insert_front_at;
-use image::front::largest_front_at;
 use image::front::read_front_at;
 use image::front::swap_front_at;
+use image::place::bucket;
 use image::place::locate;
 use minifilter::Reading;
+use minifilter::find::largest_front;
 ghost use mathlib.Core.Path.{_≡_};
 ghost use Prim.Native.Nat.{_+_, _<_};
 ghost use Rattle.multiset.specs.Multisets.{added, below, largest};
@@ -66,13 +67,13 @@ fn insert_full(image: &mut [u8], target: Target, slot: usize) -> Changed
         Behind::Members(a, b) => {
             if a.members < b.members {
                 let first = first_of(front, size);
-                return Changed::Accepted(overflow_to(image, target, slot, first, a.below));
+                return Changed::Accepted(overflow_to(image, target, over, slot, first, a.below));
             }
             if b.members == 22 {
                 return Changed::Refused(Refusal::Full);
             }
             let second = second_of(front, size);
-            Changed::Accepted(overflow_to(image, target, slot, second, b.below))
+            Changed::Accepted(overflow_to(image, target, over, slot, second, b.below))
         }
     }
 }
@@ -82,7 +83,7 @@ fn overflow_of(image: &[u8], front: Front, key: u32) -> u32
     requires { ⌜ FrontFull (front .0) (now image) × (key < keys layout1) ⌝ }
     ensures { λ r. ⌜ (r ≡ largest (added key (inFront (front .0) (now (image .entry))))) × (r < keys layout1) ⌝ }
 {
-    let largest = largest_front_at(image, front);
+    let largest = largest_front(bucket(image, front.0));
     if key < largest {
         return largest;
     }
@@ -91,21 +92,24 @@ fn overflow_of(image: &[u8], front: Front, key: u32) -> u32
 
 // The largest of the front bucket's members and the key, whose slot there is `slot`, goes to slot `to` of a backyard bucket; the rest stay
 // in front.
-fn overflow_to(image: &mut [u8], target: Target, slot: usize, way: Overflow, to: usize) -> usize
-    requires { ⌜ Overflows target way slot to (now image) ⌝ }
+fn overflow_to(
+    image: &mut [u8],
+    target: Target,
+    over: u32,
+    slot: usize,
+    way: Overflow,
+    to: usize,
+) -> usize
+    requires { ⌜ Overflows target way over slot to (now image) ⌝ }
     ensures { λ r. ⌜ (r ≡ 1 + way .bucket .0)
         × (now (image .exit) ≡ overflowed (target .size) (target .front .0) (target .key) way (now (image .entry))) ⌝ }
 {
     let front = target.front;
     let key = target.key;
     let bucket = way.bucket;
-    let crumb = way.crumb;
-    let largest = largest_front_at(image, front);
-    if key < largest {
-        swap_front_at(image, front, 27, largest, slot, key);
-        insert_back_at(image, target.size, bucket, to, largest * 16 + crumb);
-        return 1 + bucket.0;
+    if key < over {
+        swap_front_at(image, front, 27, over, slot, key);
     }
-    insert_back_at(image, target.size, bucket, to, key * 16 + crumb);
+    insert_back_at(image, target.size, bucket, to, over * 16 + way.crumb);
     1 + bucket.0
 }

@@ -48,6 +48,7 @@ overflow-to-requires : tie.Need-overflow-to-requires
 overflow-to-requires c κs =
     let c5 = c .before .before .before .before .before in
     let s = c5 .before .before .before .before .before .before .before .before .before in
+    let o = c5 .before .before .before .before .before .overflow-of .ensures in
     let b = both c5 in
     let l = c .before .first-of .ensures in
     record {
@@ -57,7 +58,8 @@ overflow-to-requires c κs =
       room = rw (l .bucket) (omega (arith, b .0 .first, b .0 .second, b .0 .read .second .list .room));
       crumb = l .small;
       slot = s .pre .2;
-      place = rw (l .bucket, l .crumb) (b .1 .first);
+      leaves = o .0;
+      place = rw (o .0, l .bucket, l .crumb) (b .1 .first);
     }
 
 same-length : tie.Need-same-length
@@ -101,6 +103,7 @@ overflow-to-requires-2 : tie.Need-overflow-to-requires-2
 overflow-to-requires-2 c κs =
     let c7 = c .before .before .before .before .before .before .before in
     let s = c7 .before .before .before .before .before .before .before .before .before in
+    let o = c7 .before .before .before .before .before .overflow-of .ensures in
     let b = both c7 in
     let l = c .before .second-of .ensures in
     record {
@@ -110,7 +113,8 @@ overflow-to-requires-2 c κs =
       room = rw (l .bucket) (room-left (b .0 .read .second .list .room) (λ q. c .before .before .if2 .left (omega (arith, q, b .0 .second))));
       crumb = l .small;
       slot = s .pre .2;
-      place = rw (l .bucket, l .crumb) (b .1 .second);
+      leaves = o .0;
+      place = rw (o .0, l .bucket, l .crumb) (b .1 .second);
     }
 
 same-length-3 : tie.Need-same-length-3

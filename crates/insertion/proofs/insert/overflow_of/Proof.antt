@@ -2,32 +2,42 @@
 use mathlib.Core.Path.{_≡_, sym, _∙_}
 use native.Mathlib.Omega.{arith}
 use borrow.Author.Needs.{needs}
+use Rattle.multiset.specs.Multisets.{largest}
 use Rattle.image.specs.ImageReads.{inFront}
 use Rattle.image.proofs.ImageReadLaws.{largest-key}
 use Rattle.insertion.proofs.InsertSteps.{over-largest, over-key}
 use Rattle.insertion.proofs.insert.overflow_of.Statement.{statement}
 use Rattle.insertion.proofs.insert.overflow_of.Tie as tie
 
-largest-front-at-requires : tie.Need-largest-front-at-requires
-largest-front-at-requires c κs = search needs
+bucket-requires : tie.Need-bucket-requires
+bucket-requires c κs = search needs
+
+largest-front-requires : tie.Need-largest-front-requires
+largest-front-requires c κs = let p = c .before .before .pre .0 in rw (c .bucket .ensures .0) (p .read .sound, p .full)
+
+-- the largest in front
+top : (c : tie.After-largest-front) →
+    let a = c .before .before .before .args in
+    c .largest-front .result ≡ largest (inFront (a .front .0) (a .image .now))
+top c = rw (c .before .bucket .ensures .0) at (c .largest-front .ensures)
 
 returns : tie.Need-returns
 returns c =
-    let s = c .before .before .before in
+    let s = c .before .before .before .before in
     let xs = inFront (s .args .front .0) (s .args .image .now) in
-    let l = c .before .largest-front-at .ensures in (
+    let l = top (c .before) in (
       l ∙ sym (over-largest (s .args .key) xs (s .pre .0 .read .list .order) (omega (arith, l))),
       omega (arith, l, largest-key (s .pre .0) .1),
     )
 
 returns-2 : tie.Need-returns-2
 returns-2 c =
-    let s = c .before .before .before in
+    let s = c .before .before .before .before in
     let xs = inFront (s .args .front .0) (s .args .image .now) in
-    let l = c .before .largest-front-at .ensures in (
+    let l = top (c .before) in (
       sym (over-key (s .args .key) xs (s .pre .0 .read .list .order) (omega (arith, l))),
       s .pre .1,
     )
 
 pub overflow-of-spec : {M : Type 1} → statement M
-overflow-of-spec = tie.close (tie.spec largest-front-at-requires returns returns-2)
+overflow-of-spec = tie.close (tie.spec bucket-requires largest-front-requires returns returns-2)

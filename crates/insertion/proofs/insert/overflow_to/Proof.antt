@@ -1,157 +1,119 @@
--- `insertion::insert::overflow_to` meets its contract. The largest in front changes places with the key and leaves, or the key itself goes behind.
-use mathlib.Core.Path.{_≡_, refl, sym, _∙_}
-use Prim.Native.Nat.{_≤_, _<_}
+-- `insertion::insert::overflow_to` meets its contract. The key takes the place of the largest in front, or front stays as it was (`settled`);
+-- then the overflow goes behind.
+use mathlib.Core.Path.{_≡_, refl, sym, _∙_, ap}
+use mathlib.Core.Logic.{⊎-elim}
+use Prim.Native.Nat.{ℕ, _≤_, _<_}
+use mathlib.Core.List.{List}
+use lib.ListN.{length}
 use native.Mathlib.Omega.{arith}
 use borrow.Author.Needs.{needs}
 use Rattle.multiset.specs.Multisets.{added, removed, largest}
 use Rattle.multiset.proofs.SlotLaws.{below-without}
-use Rattle.crumbmap.specs.Layouts.{layout1}
+use Rattle.crumbmap.specs.Layouts.{layout1, keys}
 use Rattle.machine.specs.Images.{putFront}
 use Rattle.image.specs.ImageReads.{inFront}
-use Rattle.image.proofs.ImageReadLaws.{largest-key, last-at}
-use Rattle.image.proofs.ImageWriteLaws.{list-swapped, inBack-kept, back-kept, putFront-same}
-use Rattle.insertion.proofs.InsertSteps.{over-largest, over-key, overflowed-swap, overflowed-same}
+use Rattle.image.proofs.ImageReadLaws.{last-at}
+use Rattle.image.proofs.ImageWriteLaws.{inBack-kept, back-kept, putFront-same, length-putFront}
+use Rattle.insertion.specs.Insertions.{overflowed}
+use Rattle.insertion.proofs.InsertSteps.{over-front, over-range, stays, stays-swapped, stays-same, stays-list}
 use Rattle.insertion.proofs.insert.overflow_to.Statement.{statement}
 use Rattle.insertion.proofs.insert.overflow_to.Tie as tie
 
-largest-front-at-requires : tie.Need-largest-front-at-requires
-largest-front-at-requires c κs = search needs
-
 swap-front-at-requires : tie.Need-swap-front-at-requires
 swap-front-at-requires c κs =
-    let c7 = c .before .before .before .before .before .before .before in
-    let p = c7 .pre in
-    let t = c7 .args .target in
-    let xs = inFront (t .front .0) (c7 .args .image .now) in
-    let l = c .before .before .largest-front-at .ensures in
-    rw l (p .whole .read, last-at (p .whole), p .placed .key, p .slot ∙ sym (below-without (t .key) (largest xs) xs (omega (arith, l))))
+    let s = c .before .before .before .before .before in
+    let p = s .pre in
+    let x = s .args .target .key in
+    let xs = inFront (s .args .target .front .0) (s .args .image .now) in
+    let h : x < largest (added x xs) = rw (p .leaves) at (c .before .if1 .taken) in
+    let e = over-front x xs (p .whole .read .list .order) h in
+    rw (p .leaves, e) (p .whole .read, last-at (p .whole), p .placed .key, p .slot ∙ sym (below-without x (largest xs) xs (omega (arith, e))))
 
--- the front bucket after the swap
-swapped : (c : tie.After-swap-front-at) →
-    let s = c .before .before .before .before .before .before .before .before in
+-- the image once the front bucket has what stays
+settled : (c : tie.Joined1) →
+    let s = c .before .before .before .before in
     let t = s .args .target in
-    c .swap-front-at .last .0 ≡ putFront layout1 (t .front .0)
-    (added (t .key) (removed (largest (inFront (t .front .0) (s .args .image .now))) (inFront (t .front .0) (s .args .image .now))))
-    (s .args .image .now)
-swapped c =
-    let c3 = c .before .before .before in
-    rw (c3 .largest-front-at .ensures) at (c .swap-front-at .ensures)
+    c .if1 .image ≡ putFront layout1 (t .front .0) (stays (s .pre .whole) (t .key)) (s .args .image .now)
+settled c =
+    let s = c .before .before .before .before in
+    let p = s .pre in
+    let f = s .args .target .front .0 in
+    let x = s .args .target .key in
+    let img = s .args .image .now in
+    let xs = inFront f img in
+    let keep : List ℕ → List ℕ = λ l. putFront layout1 f l img in
+    ⊎-elim
+    (λ w.
+    let h : x < largest (added x xs) = rw (p .leaves) at (w .0 .taken) in
+    w .5 ∙ rw (p .leaves, over-front x xs (p .whole .read .list .order) h) at (w .2 .ensures) ∙ sym (ap keep (stays-swapped (p .whole) x h)))
+    (λ w.
+    let h : largest (added x xs) ≤ x = omega (arith, w .0 .left, p .leaves) in
+    w .1 ∙ sym (ap keep (stays-same (p .whole) x h) ∙ putFront-same (p .whole .read)))
+    (c .if1 .came)
+
+over-low : (s : tie.Start) → s .args .over < keys layout1
+over-low s = rw (s .pre .leaves) (over-range (s .pre .whole) (s .args .target .key) (s .pre .placed .key))
 
 mul-insert-back-at : tie.Need-mul-insert-back-at
-mul-insert-back-at c =
-    let c6 = c .before .before .before .before .before .before in
-    let c11 = c6 .before .before .before .before .before in
-    omega (arith, c6 .largest-front-at .ensures, largest-key (c11 .pre .whole) .1)
+mul-insert-back-at c = omega (arith, over-low (c .before .before .before .before .before))
 
 add-insert-back-at : tie.Need-add-insert-back-at
-add-insert-back-at c =
-    let c6 = c .before .before .before .before .before .before in
-    let c11 = c6 .before .before .before .before .before in
-    omega (arith, c6 .largest-front-at .ensures, largest-key (c11 .pre .whole) .1, c11 .pre .crumb)
+add-insert-back-at c = let s = c .before .before .before .before .before .before in omega (arith, over-low s, s .pre .crumb)
 
 insert-back-at-requires : tie.Need-insert-back-at-requires
 insert-back-at-requires c κs =
-    let c3 = c .before .before .before in
-    let c6 = c3 .before .before .before in
-    let s = c6 .before .before .before .before .before in
+    let c2 = c .before .before in
+    let s = c2 .before .before .before .before in
+    let p = s .pre in
     let t = s .args .target in
+    let j = s .args .way .bucket .0 in
     let img = s .args .image .now in
-    let xs = inFront (t .front .0) img in
-    let k = largest-key (s .pre .whole) in
-    let l = list-swapped (largest xs) (t .key) xs (s .pre .whole .read .list) (k .0) (s .pre .placed .key) in
-    let zs = added (t .key) (removed (largest xs) xs) in
-    rw (swapped c3, c6 .largest-front-at .ensures) (
-      back-kept (t .front .0) zs img (s .pre .whole .read .inside) l (t .size) (s .args .way .bucket .0) (s .pre .placed .within .front) (s .pre .back),
-      rw (inBack-kept (t .front .0) zs img (s .pre .whole .read .inside) l (t .size) (s .args .way .bucket .0) (s .pre .placed .within .front)) (s .pre .room),
-      omega (arith, k .1, s .pre .crumb),
-      rw (inBack-kept (t .front .0) zs img (s .pre .whole .read .inside) l (t .size) (s .args .way .bucket .0) (s .pre .placed .within .front))
-          (rw (over-largest (t .key) xs (s .pre .whole .read .list .order) (omega (arith, c3 .before .before .if1 .taken, c6 .largest-front-at .ensures))) at (s .pre .place)),
+    let zs = stays (p .whole) (t .key) in
+    let l = stays-list (p .whole) (t .key) (p .placed .key) in
+    let kept = inBack-kept (t .front .0) zs img (p .whole .read .inside) l (t .size) j (p .placed .within .front) in
+    rw (settled c2) (
+      back-kept (t .front .0) zs img (p .whole .read .inside) l (t .size) j (p .placed .within .front) (p .back),
+      rw kept (p .room),
+      omega (arith, over-low s, p .crumb),
+      rw kept (p .place),
     )
 
 add-result : tie.Need-add-result
 add-result c = search needs
 
 same-length : tie.Need-same-length
-same-length c = search needs
+same-length c =
+    let c6 = c .before .before .before .before .before .before in
+    let s = c6 .before .before .before .before in
+    let t = s .args .target in
+    omega (
+      arith,
+      c .before .before .before .insert-back-at .kept,
+      ap length (settled c6),
+      length-putFront (t .front .0) (stays (s .pre .whole) (t .key)) (s .args .image .now)
+          (s .pre .whole .read .inside) (stays-list (s .pre .whole) (t .key) (s .pre .placed .key)),
+    )
 
 returns : tie.Need-returns
+unfolding overflowed
 returns c =
     let c3 = c .before .before .before in
-    let c7 = c3 .before .before .before .before in
-    let c9 = c7 .before .before in
-    let c10 = c9 .before in
-    let s = c10 .before .before .before .before .before in
+    let c6 = c3 .before .before .before in
+    let s = c6 .before .before .before .before in
+    let p = s .pre in
     let t = s .args .target in
-    let img = s .args .image .now in
-    let xs = inFront (t .front .0) img in
-    let k = largest-key (s .pre .whole) in
-    let l = list-swapped (largest xs) (t .key) xs (s .pre .whole .read .list) (k .0) (s .pre .placed .key) in
-    let zs = added (t .key) (removed (largest xs) xs) in
-    let h : t .key < largest xs = omega (arith, c9 .if1 .taken, c10 .largest-front-at .ensures) in
-    let o = overflowed-swap (t .size) (t .front .0) (t .key) (s .args .way) img (s .pre .whole .read) h (omega (arith, s .pre .whole .full)) in (
-      refl,
-      rw (
-        swapped c7,
-        c10 .largest-front-at .ensures,
-        inBack-kept (t .front .0) zs img (s .pre .whole .read .inside) l (t .size) (s .args .way .bucket .0) (s .pre .placed .within .front),
-      )
-          at (c3 .insert-back-at .ensures)
-          ∙ sym o,
-    )
-
-mul-insert-back-at-2 : tie.Need-mul-insert-back-at-2
-mul-insert-back-at-2 c = search needs
-
-add-insert-back-at-2 : tie.Need-add-insert-back-at-2
-add-insert-back-at-2 c = search needs
-
-insert-back-at-requires-2 : tie.Need-insert-back-at-requires-2
-insert-back-at-requires-2 c κs =
-    let c1 = c .before in
-    let s = c1 .before .before .before .before .before .before in
-    let t = s .args .target in
-    let xs = inFront (t .front .0) (s .args .image .now) in (
-      s .pre .back,
-      s .pre .room,
-      omega (arith, s .pre .placed .key, s .pre .crumb),
-      rw (over-key (t .key) xs (s .pre .whole .read .list .order) (omega (arith, c1 .if1 .left, c1 .before .largest-front-at .ensures))) at (s .pre .place),
-    )
-
-add-result-2 : tie.Need-add-result-2
-add-result-2 c = search needs
-
-same-length-2 : tie.Need-same-length-2
-same-length-2 c = search needs
-
-returns-2 : tie.Need-returns-2
-returns-2 c =
-    let c3 = c .before .before .before in
-    let c5 = c3 .before .before in
-    let c6 = c5 .before in
-    let s = c6 .before .before .before .before .before in
-    let t = s .args .target in
-    let img = s .args .image .now in
-    let h : largest (inFront (t .front .0) img) ≤ t .key = omega (arith, c5 .if1 .left, c6 .largest-front-at .ensures) in
-    let o = overflowed-same (t .size) (t .front .0) (t .key) (s .args .way) img (s .pre .whole .read) h (putFront-same (s .pre .whole .read)) in (
-      refl,
-      c3 .insert-back-at2 .ensures ∙ sym o,
-    )
+    let kept = inBack-kept (t .front .0) (stays (p .whole) (t .key)) (s .args .image .now) (p .whole .read .inside)
+    (stays-list (p .whole) (t .key) (p .placed .key)) (t .size) (s .args .way .bucket .0) (p .placed .within .front) in
+    (refl, rw (settled c6, kept, p .leaves) at (c3 .insert-back-at .ensures))
 
 pub overflow-to-spec : {M : Type 1} → statement M
 overflow-to-spec =
     tie.close
     (tie.spec
-    largest-front-at-requires
     swap-front-at-requires
     mul-insert-back-at
     add-insert-back-at
     insert-back-at-requires
     add-result
     same-length
-    returns
-    mul-insert-back-at-2
-    add-insert-back-at-2
-    insert-back-at-requires-2
-    add-result-2
-    same-length-2
-    returns-2)
+    returns)
