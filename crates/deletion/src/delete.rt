@@ -14,18 +14,19 @@ use image::Located;
 use image::Ranked;
 use image::Target;
 use image::back::copies_at;
-use image::back::first_carrying_at;
 use image::back::read_behind;
 use image::back::remove_back_at;
-use image::front::copies_front_at;
-use image::front::largest_front_at;
-use image::front::rank_front_at;
 use image::front::read_front_at;
 use image::front::remove_front_at;
 use image::front::swap_front_at;
+use image::place::back_bucket;
+use image::place::bucket;
 use image::place::locate;
 use minifilter::Carried;
 use minifilter::Reading;
+use minifilter::find::copies_front;
+use minifilter::find::first_carrying;
+use minifilter::find::largest_front;
 ghost use mathlib.Core.Path.{_≡_};
 ghost use Prim.Native.Nat.{_+_, _<_};
 ghost use Rattle.multiset.specs.Multisets.{removed, below, copies};
@@ -54,7 +55,7 @@ fn delete_at(image: &mut [u8], target: Target) -> Changed
     let Reading::Members(n, slot) = read_front_at(image, front, key) else {
         return Changed::Refused(Refusal::Unsound(front.0));
     };
-    if copies_front_at(image, front, slot, key) == 0 {
+    if copies_front(bucket(image, front.0), slot, key) == 0 {
         return delete_other(image, target, n);
     }
     if n < 28 {
@@ -116,15 +117,18 @@ fn refill_from(
     take_out(image, target.size, way, from, key)
 }
 
-// How many members of a front bucket that holds 28 are below a key once a copy of another has left it; 27 where the key exceeds them all.
+// How many members of a front bucket that holds 28 are below a key once a copy of another has left it: 27 where the key exceeds them all,
+// else by reading the bucket, which is sound, for that key.
 fn rank_without(image: &[u8], front: Front, gone: u32, key: u32) -> usize
     requires { ⌜ FrontFull (front .0) (now image) × (0 < copies gone (inFront (front .0) (now image))) × (key < keys layout1) ⌝ }
     ensures { λ r. ⌜ r ≡ below key (removed gone (inFront (front .0) (now (image .entry)))) ⌝ }
 {
-    if largest_front_at(image, front) < key {
+    if largest_front(bucket(image, front.0)) < key {
         return 27;
     }
-    let below = rank_front_at(image, front, key);
+    let Reading::Members(_, below) = read_front_at(image, front, key) else {
+        return 0;
+    };
     if gone < key {
         return below - 1;
     }
@@ -138,8 +142,8 @@ fn least_behind(image: &[u8], size: usize, front: Front, n0: usize, n1: usize) -
 {
     let first = first_of(front, size);
     let second = second_of(front, size);
-    let in_first = first_carrying_at(image, size, first.bucket, first.crumb);
-    let in_second = first_carrying_at(image, size, second.bucket, second.crumb);
+    let in_first = first_carrying(back_bucket(image, size, first.bucket), first.crumb);
+    let in_second = first_carrying(back_bucket(image, size, second.bucket), second.crumb);
     let Carried::Key(a, i) = in_first else {
         let Carried::Key(b, j) = in_second else {
             return Leaving::Nothing;
@@ -170,7 +174,7 @@ fn delete_other(image: &mut [u8], target: Target, n: usize) -> Changed
     if n < 28 {
         return Changed::Refused(Refusal::Absent);
     }
-    if target.key <= largest_front_at(image, target.front) {
+    if target.key <= largest_front(bucket(image, target.front.0)) {
         return Changed::Refused(Refusal::Absent);
     }
     delete_behind(image, target)

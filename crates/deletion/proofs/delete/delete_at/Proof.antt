@@ -44,19 +44,30 @@ front c =
     let c7 = c3 .before .before .before .before in
     front-read (c7 .args .target .front .0) (c7 .args .target .key) (c7 .args .image .now) (c3 .read-front-at .ensures) (c .before .n .given .1)
 
-copies-front-at-requires : tie.Need-copies-front-at-requires
-copies-front-at-requires c κs =
-    let c8 = c .before .before .before .before .before .before .before .before in
-    let r = front (c .before) in
-    (r .0, c8 .pre .key, r .2)
+bucket-requires : tie.Need-bucket-requires
+bucket-requires c κs = front (c .before) .0 .inside
+
+copies-front-requires : tie.Need-copies-front-requires
+copies-front-requires c κs =
+    let known = c .before .before in
+    let s = known .before .before .before .before .before .before .before in
+    let r = front known in
+    rw (c .bucket .ensures .0) (r .0 .sound, s .pre .key, r .2)
+
+-- the copies in front
+near : (c : tie.After-copies-front) →
+    let s = c .before .before .before .before .before .before .before .before .before .before in
+    let t = s .args .target in
+    c .copies-front .result ≡ copies (t .key) (inFront (t .front .0) (s .args .image .now))
+near c = rw (c .before .bucket .ensures .0) at (c .copies-front .ensures)
 
 delete-other-requires : tie.Need-delete-other-requires
 delete-other-requires c κs =
     let c2 = c .before .before in
-    let c4 = c2 .before .before in
-    let s = c4 .before .before .before .before .before .before .before in
-    let r = front c4 in
-    record { placed = s .pre; read = r .0; many = r .1; absent = omega (arith, c2 .copies-front-at .ensures) }
+    let known = c2 .before .before .before in
+    let s = known .before .before .before .before .before .before .before in
+    let r = front known in
+    record { placed = s .pre; read = r .0; many = r .1; absent = omega (arith, near c2) }
 
 same-length-2 : tie.Need-same-length-2
 same-length-2 c = search needs
@@ -66,21 +77,21 @@ returns-2 c = search needs
 
 -- a copy stands in front, at the slot behind the members below it
 there : (c : tie.Else1) →
-    let s = c .before .before .before .before .before .before .before .before .before .before in
+    let s = c .before .before .before .before .before .before .before .before .before .before .before in
     let t = s .args .target in
     0 < copies (t .key) (inFront (t .front .0) (s .args .image .now))
-there c = rw (c .before .copies-front-at .ensures) at (above-zero _ (c .if1 .left))
+there c = rw (near (c .before)) at (above-zero _ (c .if1 .left))
 
 here : (c : tie.Else1) →
-    let s = c .before .before .before .before .before .before .before .before .before .before in
+    let s = c .before .before .before .before .before .before .before .before .before .before .before in
     let t = s .args .target in
-    At (t .key) (c .before .before .before .before .n .given .0 .1 .0) (inFront (t .front .0) (s .args .image .now))
+    At (t .key) (c .before .before .before .before .before .n .given .0 .1 .0) (inFront (t .front .0) (s .args .image .now))
 here c =
-    let r = front (c .before .before .before) in
+    let r = front (c .before .before .before .before) in
     rw (r .2) (below-at (r .0 .list .order) (there c))
 
 remove-front-at-requires : tie.Need-remove-front-at-requires
-remove-front-at-requires c κs = (front (c .before .before .before .before .before) .0, here (c .before .before))
+remove-front-at-requires c κs = (front (c .before .before .before .before .before .before) .0, here (c .before .before))
 
 same-length-3 : tie.Need-same-length-3
 same-length-3 c = search needs
@@ -88,17 +99,17 @@ same-length-3 c = search needs
 returns-3 : tie.Need-returns-3
 returns-3 c =
     let c5 = c .before .before .before .before .before in
-    let c8 = c5 .before .before .before in
-    let a = c8 .before .before .before .before .before .before .before .args in
-    let r = front c8 in
+    let known = c5 .before .before .before .before in
+    let a = known .before .before .before .before .before .before .before .args in
+    let r = front known in
     changes (delete-short (a .target .size) (a .target .front .0) (a .target .key) (a .image .now) (r .0) (there c5) (omega (arith, r .1)))
     (record { answer = refl; bytes = c .before .before .remove-front-at .ensures })
 
 refill-requires : tie.Need-refill-requires
 refill-requires c κs =
-    let c5 = c .before .before .before .before .before in
-    let s = c5 .before .before .before .before .before .before .before in
-    let r = front c5 in
+    let known = c .before .before .before .before .before .before in
+    let s = known .before .before .before .before .before .before .before in
+    let r = front known in
     (s .pre, front-full (r .0) (r .1) (omega arith), here (c .before .before))
 
 same-length-4 : tie.Need-same-length-4
@@ -116,7 +127,8 @@ delete-at-spec =
     enum-told
     same-length
     returns
-    copies-front-at-requires
+    bucket-requires
+    copies-front-requires
     delete-other-requires
     same-length-2
     returns-2

@@ -17,17 +17,21 @@ first-of-requires c κs = search needs
 second-of-requires : tie.Need-second-of-requires
 second-of-requires c κs = search needs
 
-first-carrying-at-requires : tie.Need-first-carrying-at-requires
-first-carrying-at-requires c κs =
-    let c3 = c .before .before .before in
-    let l = c .before .first-of .ensures in
-    (chosen-way (c3 .pre .1 .read) true l, l .small)
+back-bucket-requires : tie.Need-back-bucket-requires
+back-bucket-requires c κs = chosen-way (c .before .before .before .pre .1 .read) true (c .before .first-of .ensures) .within
 
-first-carrying-at-requires-2 : tie.Need-first-carrying-at-requires-2
-first-carrying-at-requires-2 c κs =
-    let c4 = c .before .before .before .before in
-    let l = c .before .second-of .ensures in
-    (chosen-way (c4 .pre .1 .read) false l, l .small)
+first-carrying-requires : tie.Need-first-carrying-requires
+first-carrying-requires c κs =
+    let l = c .before .before .first-of .ensures in
+    rw (c .back-bucket .ensures .0) (chosen-way (c .before .before .before .before .pre .1 .read) true l .sound, l .small)
+
+back-bucket-requires-2 : tie.Need-back-bucket-requires-2
+back-bucket-requires-2 c κs = chosen-way (c .before .before .before .before .before .pre .1 .read) false (c .before .before .second-of .ensures) .within
+
+first-carrying-requires-2 : tie.Need-first-carrying-requires-2
+first-carrying-requires-2 c κs =
+    let l = c .before .before .before .second-of .ensures in
+    rw (c .back-bucket2 .ensures .0) (chosen-way (c .before .before .before .before .before .before .pre .1 .read) false l .sound, l .small)
 
 enum-known-in-first : tie.Need-enum-known-in-first
 enum-known-in-first c = search needs
@@ -42,33 +46,31 @@ enum-told-2 : tie.Need-enum-told-2
 enum-told-2 c = search needs
 
 -- the first keys of First(f) and of Second(f), with their slots
-first : (c : tie.After-first-carrying-at2) {k : Carried} →
-    let s = c .before .before .before .before .before in
-    c .before .first-carrying-at .result ≡ k → leadsFirst (s .args .size) (s .args .front .0) (s .args .image .now) ≡ k
+first : (c : tie.After-first-carrying2) {k : Carried} →
+    let s = c .before .before .before .before .before .before .before in
+    c .before .before .first-carrying .result ≡ k → leadsFirst (s .args .size) (s .args .front .0) (s .args .image .now) ≡ k
 first c e =
-    let c3 = c .before .before .before in
-    let c5 = c3 .before .before in
-    first-key (c5 .args .image .now) (c3 .first-of .ensures) (c .before .first-carrying-at .ensures) e
+    let found = c .before .before in
+    first-key (c .before .before .before .before .before .before .before .args .image .now) (c .before .before .before .before .before .first-of .ensures) (rw (found .before .back-bucket .ensures .0) at (found .first-carrying .ensures)) e
 
-second : (c : tie.After-first-carrying-at2) {k : Carried} →
-    let s = c .before .before .before .before .before in
-    c .first-carrying-at2 .result ≡ k → leadsSecond (s .args .size) (s .args .front .0) (s .args .image .now) ≡ k
+second : (c : tie.After-first-carrying2) {k : Carried} →
+    let s = c .before .before .before .before .before .before .before in
+    c .first-carrying2 .result ≡ k → leadsSecond (s .args .size) (s .args .front .0) (s .args .image .now) ≡ k
 second c e =
-    let c5 = c .before .before .before .before .before in
-    second-key (c5 .args .image .now) (c .before .before .second-of .ensures) (c .first-carrying-at2 .ensures) e
+    second-key (c .before .before .before .before .before .before .before .args .image .now) (c .before .before .before .before .second-of .ensures) (rw (c .before .back-bucket2 .ensures .0) at (c .first-carrying2 .ensures)) e
 
 returns : tie.Need-returns
 returns c =
     let c4 = c .before .before .before .before in
-    let c9 = c4 .before .before .before .before .before in
-    least-none (c9 .pre .1 .read) (first c4 (c .before .before .enum-told .given .1)) (second c4 (c .enum-told2 .given .1))
+    let s = c4 .before .before .before .before .before .before .before in
+    least-none (s .pre .1 .read) (first c4 (c .before .before .enum-told .given .1)) (second c4 (c .enum-told2 .given .1))
 
 returns-2 : tie.Need-returns-2
 returns-2 c =
     let c3 = c .before .before .before in
     let c5 = c3 .before .before in
-    let c10 = c5 .before .before .before .before .before in
-    least-second-only (c10 .pre .1 .read) _ _ (first c5 (c3 .enum-told .given .1))
+    let s = c5 .before .before .before .before .before .before .before in
+    least-second-only (s .pre .1 .read) _ _ (first c5 (c3 .enum-told .given .1))
     (second c5 (c .before .in-second .given .1))
 
 enum-known-in-second-2 : tie.Need-enum-known-in-second-2
@@ -81,15 +83,15 @@ returns-3 : tie.Need-returns-3
 returns-3 c =
     let c3 = c .before .before .before in
     let c5 = c3 .before .before in
-    let c10 = c5 .before .before .before .before .before in
-    least-first-only (c10 .pre .1 .read) _ _ (first c5 (c3 .in-first .given .1)) (second c5 (c .enum-told3 .given .1))
+    let s = c5 .before .before .before .before .before .before .before in
+    least-first-only (s .pre .1 .read) _ _ (first c5 (c3 .in-first .given .1)) (second c5 (c .enum-told3 .given .1))
 
 returns-4 : tie.Need-returns-4
 returns-4 c =
     let c5 = c .before .before .before .before .before in
     let c7 = c5 .before .before in
-    let c12 = c7 .before .before .before .before .before in
-    least-first (c12 .pre .1 .read) (c5 .in-first .given .0 .0) (c .before .before .in-second2 .given .0 .0)
+    let s = c7 .before .before .before .before .before .before .before in
+    least-first (s .pre .1 .read) (c5 .in-first .given .0 .0) (c .before .before .in-second2 .given .0 .0)
     (first c7 (c5 .in-first .given .1)) (second c7 (c .before .before .in-second2 .given .1)) (c .if1 .taken)
 
 returns-5 : tie.Need-returns-5
@@ -97,8 +99,8 @@ returns-5 c =
     let c3 = c .before .before .before in
     let c6 = c3 .before .before .before in
     let c8 = c6 .before .before in
-    let c13 = c8 .before .before .before .before .before in
-    least-second (c13 .pre .1 .read) (c6 .in-first .given .0 .0) (c3 .in-second2 .given .0 .0) (first c8 (c6 .in-first .given .1))
+    let s = c8 .before .before .before .before .before .before .before in
+    least-second (s .pre .1 .read) (c6 .in-first .given .0 .0) (c3 .in-second2 .given .0 .0) (first c8 (c6 .in-first .given .1))
     (second c8 (c3 .in-second2 .given .1)) (c .if2 .taken)
 
 returns-6 : tie.Need-returns-6
@@ -106,8 +108,8 @@ returns-6 c =
     let c4 = c .before .before .before .before in
     let c7 = c4 .before .before .before in
     let c9 = c7 .before .before in
-    let c14 = c9 .before .before .before .before .before in
-    let b = c14 .pre .1 in
+    let s = c9 .before .before .before .before .before .before .before in
+    let b = s .pre .1 in
     least-tie (b .read) (c7 .in-first .given .0 .0) (c4 .in-second2 .given .0 .0) (first c9 (c7 .in-first .given .1))
     (second c9 (c4 .in-second2 .given .1)) true (omega (arith, c .before .if2 .left, c .before .before .if1 .left))
     (rw (b .first, b .second) (lt-ltb _ _ (c .if3 .taken)))
@@ -117,8 +119,8 @@ returns-7 c =
     let c4 = c .before .before .before .before in
     let c7 = c4 .before .before .before in
     let c9 = c7 .before .before in
-    let c14 = c9 .before .before .before .before .before in
-    let b = c14 .pre .1 in
+    let s = c9 .before .before .before .before .before .before .before in
+    let b = s .pre .1 in
     let v = c7 .in-first .given .0 .0 in
     let w = c4 .in-second2 .given .0 .0 in
     let e : w ≡ v = omega (arith, c .before .if2 .left, c .before .before .if1 .left) in
@@ -131,8 +133,10 @@ least-behind-spec =
     (tie.spec
     first-of-requires
     second-of-requires
-    first-carrying-at-requires
-    first-carrying-at-requires-2
+    back-bucket-requires
+    first-carrying-requires
+    back-bucket-requires-2
+    first-carrying-requires-2
     enum-known-in-first
     enum-told
     enum-known-in-second
