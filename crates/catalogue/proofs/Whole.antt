@@ -1,20 +1,18 @@
--- For each call, the definition that its contract equates it with is the one that the history theorem runs; so what the contracts tell of a
--- history is that history (`kept`), and demand 3 holds of the calls themselves (`demand`).
+-- The contracts and the history theorem joined: demand 3 holds of the calls themselves (`demand`), and each backyard member in the image
+-- that they left leads home (`calls-lead-home`).
 use mathlib.Core.Path.{_≡_, refl, sym, _∙_, ap}
 use mathlib.Core.Logic.{_↔_}
 use Prim.Native.Nat.{ℕ, _^_, _<_, _≤_}
 use mathlib.Core.List.{List}
 use native.Mathlib.Omega.{arith}
-use lib.ListN.{length}
 use Rattle.crumbmap.specs.Layouts.{layout1}
 use Rattle.crumbmap.specs.Fingerprints.{frontOf, keyOf}
-use Rattle.machine.specs.Results.{Result, accepted, refused, andThen, number}
+use Rattle.buckets.proofs.BucketLaws.{fits1}
+use Rattle.machine.specs.Homes.{AllLeadHome}
+use Rattle.machine.specs.Results.{accepted, number}
 use Rattle.machine.specs.Machine as M
-use Rattle.machine.specs.Pages.{Run}
-use Rattle.machine.specs.Calls.{freshOf, insertOf, deleteOf, askOf, countOf, pageOf, mergeOf, written, imageOf, targetOf}
-use Rattle.answers.specs.Answers.{doneOf, changeOf, askedOf, countedOf, pagedOf, placeOf, refusal, blank, answerOf, extentOf}
-use Rattle.answers.specs.declared.Refusal.{Refusal}
-use Rattle.answers.specs.declared.Refusal.the-variants as R
+use Rattle.machine.specs.Calls.{askOf, countOf}
+use Rattle.answers.specs.Answers.{askedOf, countedOf, placeOf}
 use Rattle.answers.specs.declared.Counted.{Counted}
 use Rattle.answers.specs.declared.Tally.{Tally}
 use Rattle.answers.specs.declared.Tally.the-variants as T
@@ -24,66 +22,17 @@ use Rattle.answers.specs.declared.Answer.the-variants as A
 use Rattle.answers.specs.declared.Place.{Place}
 use Rattle.answers.specs.declared.Place.the-variants as P
 use Rattle.history.specs.Histories as H
-use Rattle.history.specs.Histories.{Call, History, Fits, Started, blocks, bytesAfter, numberOf, imageAfter}
+use Rattle.history.specs.Histories.{Call, History, Fits, Started, blocks, bytesAfter}
 use Rattle.history.specs.Ledgers.{ledger, smaller}
 use Rattle.history.specs.Refusals.{due}
 use Rattle.history.specs.Demand.{Holds}
-use Rattle.history.proofs.Theorem.{demand3-layout1}
-use Rattle.catalogue.specs.Runs.{Performed, inserted, deleted, asked, counted, paged, Happened, fresh, merge, followed}
-use Rattle.catalogue.specs.Delivery.{Delivers, Demand, filed}
-
--- ---- the answer without the image has the number of the whole
-
-number-then : {A C : Type 0} (r : Result A) (f : A → C) → number (andThen r (λ a. accepted (f a))) ≡ number r
-number-then (accepted a) f = refl
-number-then (refused n i) f = refl
-
--- ---- one call
-
--- a call's contract gives the machine's number and image
-pub performed : {img : List ℕ} {c : Call} {n : ℕ} {new : List ℕ} → Performed img c n new → (n ≡ numberOf layout1 img c) × (new ≡ imageAfter layout1 img c)
-performed {img} (inserted k r new i) = (ap number (i .answer) ∙ number-then (insertOf layout1 img k) (λ (c : M.Change). c .answer), i .bytes)
-performed {img} (deleted k r new d) = (ap number (d .answer) ∙ number-then (deleteOf layout1 img k) (λ (c : M.Change). c .answer), d .bytes)
-performed (asked k r e) = (ap number e, refl)
-performed (counted k r e) = (ap number e, refl)
-performed {img} (paged s old r new p) =
-    (ap number (p .answer) ∙ number-then (pageOf layout1 img s (length old)) (λ (r : Run). (length (r .entries), r .next)), refl)
-
--- ---- a whole history
-
--- an accepted merge leaves its target with the merged image
-target-written : (m : Result (List ℕ)) (old : List ℕ) → number m ≡ 0 → targetOf layout1 m old ≡ written m old
-target-written (accepted img) old e = refl
-target-written (refused n i) old e = rw e refl
-
-pub kept : {h : History} {img : List ℕ} → Happened h img → Started layout1 h × (img ≡ bytesAfter layout1 h)
-unfolding bytesAfter
-kept (fresh old new r f e) = (sym (number-then (freshOf layout1 old) (λ (i : List ℕ). tt)) ∙ sym (ap number (f .answer)) ∙ e, f .bytes)
-kept (merge {a = a} {b = b} old new r p q m e) =
-    let x = kept p in
-    let y = kept q in
-    let n : number (mergeOf layout1 (bytesAfter layout1 a) (bytesAfter layout1 b) old) ≡ 0 =
-    rw (x .1, y .1) at (sym (number-then (mergeOf layout1 _ _ old) (λ (i : List ℕ). tt)) ∙ sym (ap number (m .answer)) ∙ e) in
-    ((x .0, y .0, n), rw (x .1, y .1) at (m .bytes) ∙ target-written (mergeOf layout1 (bytesAfter layout1 a) (bytesAfter layout1 b) old) old n)
-kept (followed c n new p fits d) =
-    let x = kept p in
-    ((x .0, fits), rw (x .1) at (performed d .1))
+use Rattle.history.proofs.Theorem.{demand3-layout1, members-lead-home}
+use Rattle.catalogue.specs.Runs.{Performed, Happened}
+use Rattle.catalogue.specs.Delivery.{Demand, filed}
+use Rattle.catalogue.proofs.RunLaws.{same-accepted, refusal-never, performed, kept}
+use Rattle.catalogue.proofs.WalkLaws.{walk-told}
 
 -- ---- what a caller meets
-
-same-accepted : {A : Type 0} {a b : A} → accepted a ≡ accepted b → a ≡ b
-same-accepted e = cc
-
--- a refusal is no accepted answer
-refusal-never : (A : Type 0) (x : Refusal) → number (refusal {A = A} x) ≡ 0 → ⊥
-refusal-never A R.WrongLength e = omega arith
-refusal-never A R.LengthsDiffer e = omega arith
-refusal-never A (R.Unsound i) e = omega arith
-refusal-never A R.Full e = omega arith
-refusal-never A R.Absent e = omega arith
-refusal-never A R.PastEnd e = omega arith
-refusal-never A R.NoRoom e = omega arith
-refusal-never A (R.Early i) e = omega arith
 
 -- an answer that the machine accepts is accepted, with the machine's values
 count-accepted : (r : Tally) (m : M.Counted) → countedOf r ≡ accepted m → (c : Counted) × (r ≡ T.Accepted c) × (c .copies ≡ m .copies)
@@ -135,5 +84,9 @@ demand h img happened =
       refusals = next-due happened;
       counts = count-tells happened;
       asks = ask-tells happened;
-      walks = holds happened .walks;
+      walks = λ N gs w. holds happened .walks N gs (walk-told w);
     }
+
+-- and in the image that the calls left, each backyard member leads by its crumb back to a front bucket that is full, none larger than it
+pub calls-lead-home : {h : History} {img : List ℕ} → Happened h img → AllLeadHome layout1 (blocks h) img
+calls-lead-home {h} happened = rw (left happened) (members-lead-home layout1 fits1 h (started happened))

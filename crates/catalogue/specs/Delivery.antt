@@ -18,15 +18,16 @@ use Rattle.answers.specs.declared.Answer.the-variants as A
 use Rattle.answers.specs.declared.Place.the-variants as P
 use Rattle.history.specs.Histories.{Call, History, Fits, blocks}
 use Rattle.history.specs.Ledgers.{fingerprintOf, ledger, smaller}
-use Rattle.history.specs.Walks.{FullWalk}
 use Rattle.history.specs.Refusals.{due}
 use Rattle.catalogue.specs.Runs.{Performed, Happened}
+use Rattle.catalogue.specs.Walks.{FullWalk}
 
 -- how often the fingerprint of hash k is filed
 abbrev pub filed : History → ℕ → ℕ
 filed h k = ledger layout1 h (fingerprintOf layout1 (blocks h) k)
 
-pub record Delivers (h : History) (img : List ℕ) : Type 0 where
+-- what a run of the calls delivers: h is its history, img the image that it left
+pub record Delivers {h : History} {img : List ℕ} (run : Happened h img) : Type 0 where
   -- the next call is refused exactly where the documents refuse it, and with that number
   pub refusals : (c : Call) (n : ℕ) (new : List ℕ) → Fits c → Performed img c n new → n ≡ due layout1 h c
   -- a count is accepted and gives N(g)
@@ -35,9 +36,9 @@ pub record Delivers (h : History) (img : List ℕ) : Type 0 where
   pub asks : (k : ℕ) (r : Answer) → k < 2 ^ 64 → askedOf r ≡ askOf layout1 img k → (a : Asked) × (r ≡ A.Accepted a)
       × ((a .place ≡ P.Nowhere → ⊥) ↔ (0 < filed h k))
       × ((1 < a .reads) ↔ (28 ≤ smaller layout1 (ledger layout1 h) (frontOf (blocks h) k) (keyOf layout1 k)))
-  -- the entries of a full walk are every g N(g) times, ascending
-  pub walks : (N : ℕ → ℕ) (gs : List ℕ) → FullWalk layout1 h N gs → T (ascending gs) × ((g : ℕ) → copies g gs ≡ N g)
+  -- the entries that the pages of a full walk wrote, joined in order, are every g N(g) times, ascending
+  pub walks : (N : ℕ → ℕ) (gs : List ℕ) → FullWalk h img run N gs → T (ascending gs) × ((g : ℕ) → copies g gs ≡ N g)
 
 -- for every history of the calls
 abbrev pub Demand : Type 0
-Demand = (h : History) (img : List ℕ) → Happened h img → Delivers h img
+Demand = (h : History) (img : List ℕ) (run : Happened h img) → Delivers run

@@ -1,6 +1,7 @@
 -- Demand 3, for every layout whose buckets fit 64 bytes (`demand3`) and at layout 1 (`demand3-layout1`): after every history each call
 -- was refused exactly where it is due, counts and asks tell the ledger, and a full walk lists it.
--- Beside it: check accepts every history's image (`check-accepts`), and a merge of two is refused only when full (`merge-refused-only-full`).
+-- Beside it: check accepts every history's image (`check-accepts`), so each backyard member in it leads home (`members-lead-home`), and a
+-- merge of two is refused only when full (`merge-refused-only-full`).
 use mathlib.Core.Path.{_≡_}
 use mathlib.Core.Logic.{_⊎_}
 use Prim.Native.Nat.{ℕ}
@@ -10,12 +11,14 @@ use Rattle.crumbmap.specs.Layouts.{Layout, layout1}
 use Rattle.buckets.specs.Buckets.{Fits64}
 use Rattle.buckets.proofs.BucketLaws.{fits1}
 use Rattle.machine.specs.Results.{accepted, number}
+use Rattle.machine.specs.Homes.{AllLeadHome}
 use Rattle.machine.specs.Calls.{checkOf, mergeOf}
 use Rattle.history.specs.Histories.{History, Started, blocks, bytesAfter}
 use Rattle.history.specs.Ledgers.{ledger}
 use Rattle.history.specs.Demand.{Demand3}
 use Rattle.machine.proofs.Invariant.{Good}
 use Rattle.machine.proofs.CheckLaws.{check-good}
+use Rattle.machine.proofs.HomeLaws.{all-lead-home}
 use Rattle.machine.proofs.MergeLaws.{merge-number}
 use Rattle.history.proofs.LedgerLaws.{keeps, all-due, count-ledger, ask-ledger, mergeOf-at}
 use Rattle.history.proofs.WalkLaws.{full-walk}
@@ -42,6 +45,10 @@ module _ (L : Layout) (fits : Fits64 L) where
   pub check-accepts : (h : History) → Started L h → checkOf L (bytesAfter L h) ≡ accepted tt
   unfolding checkOf
   check-accepts h s = rw (keeps L fits h s .good .size) (check-good L (blocks h) (bytesAfter L h) (keeps L fits h s .good))
+
+  -- each backyard member in it leads by its crumb back to a front bucket that is full, none larger than the member
+  pub members-lead-home : (h : History) → Started L h → AllLeadHome L (blocks h) (bytesAfter L h)
+  members-lead-home h s = all-lead-home L (blocks h) (bytesAfter L h) (check-good L (blocks h) (bytesAfter L h) (keeps L fits h s .good))
 
   -- a merge of two histories' images into bytes of the same length is accepted or full
   pub merge-refused-only-full : (a b : History) (old : List ℕ) → Started L a → Started L b

@@ -1,14 +1,14 @@
 -- Check accepts exactly the good images: every bucket is sound, and no backyard member stands before its turn.
 -- Main results: `check-good` and, for bytes of an image's length, `good-checked`.
-use mathlib.Core.Path.{_≡_, refl, sym, ap, _∙_}
+use mathlib.Core.Path.{_≡_, refl, sym, _∙_}
 use Prim.Native.Nat.{ℕ, zero, suc, _+_, _*_, _/_, _%_, _≤_, _<_}
-use mathlib.Core.Bool.{Bool, true, false, cond, _&&_}
+use mathlib.Core.Bool.{Bool, true, false, cond}
 use mathlib.Core.List.{List, [], _∷_}
 use mathlib.Core.Option.{Option, none, some}
 use native.Mathlib.Omega.{arith}
 use native.Mathlib.Decide.{ℕ-discrete}
 use lib.ListN.{length, getD}
-use lib.Dec.{leb, ltb, eqb, T}
+use lib.Dec.{ltb, T}
 use lib.Ieee.Fits.{and-l, and-r}
 use borrow.Author.Tests.{eq-eqb, le-leb, eqb-true, leb-true}
 use Rattle.multiset.specs.Multisets.{copies, largest}
@@ -32,8 +32,8 @@ use Rattle.machine.specs.Checks.{
   early,
   checkSized,
 }
-use Rattle.machine.proofs.ImageLaws.{sizeOf-some, front-inside, back-inside, length-bucketAt}
-use Rattle.machine.proofs.ImageLaws.{below-bucket}
+use Rattle.machine.proofs.Tests.{true-both, both-true, left-true, right-true}
+use Rattle.machine.proofs.ImageLaws.{sizeOf-some, front-inside, back-inside, length-bucketAt, below-bucket}
 use Rattle.machine.proofs.Invariant.{Good, listOf, frontView, backView, part, over}
 
 module _ (L : Layout) (B : ℕ) (img : List ℕ) (good : Good L B img) where
@@ -63,13 +63,16 @@ module _ (L : Layout) (B : ℕ) (img : List ℕ) (good : Good L B img) where
       whole : y / 16 * 16 + y % 16 ≡ y
       whole = omega arith
 
+  full-in-turn : (x : ℕ) (xs : List ℕ) → length xs ≡ L .frontSlots → largest xs ≤ x → inTurn L x (accepted xs) ≡ true
+  full-in-turn x xs e l = search (true-both, eq-eqb, le-leb, arith)
+
   member-in-turn : (j y : ℕ) (o : Option ℕ) → 0 < copies y (backView L B j img) → T (isSome o) → home B j (y % 16) ≡ o
       → homeInTurn L o (y / 16) img ≡ true
   member-in-turn j y none c s e = absurd s
   member-in-turn j y (some f) c s e =
       let l : f < fronts B = home-lt B j (y % 16) f (omega arith) e in
       let m = good .turn f (y / 16) l (member-over j y f c e) in
-      rw (good .front f l, eq-eqb _ _ (m .0), le-leb _ _ (m .1)) refl
+      rw (good .front f l) (full-in-turn (y / 16) (frontView L B f img) (m .0) (m .1))
 
   all-in-turn : (j : ℕ) (ys : List ℕ) → T (valid B j ys) → ((y : ℕ) → 0 < copies y ys → 0 < copies y (backView L B j img))
       → allInTurn L B j img ys ≡ true
@@ -95,10 +98,6 @@ module _ (L : Layout) (B : ℕ) (img : List ℕ) (good : Good L B img) where
   check-good = rw (fronts-sound (fronts B) 0 (omega arith), backs-sound (backyards B) 0 (omega arith), none-early (backyards B) 0 (omega arith)) refl
 
 -- ---- and what it accepts is good
-
-both-true : (a b : Bool) → (a && b) ≡ true → (a ≡ true) × (b ≡ true)
-both-true true b e = (refl, e)
-both-true false b e = let z : _≡_ {A = ℕ} 0 1 = cc in absurd (omega arith)
 
 -- nothing was found, and it went on
 unless-passed : (o : Option ℕ) (n : ℕ) (k : Result (Unit {0})) → unless o n k ≡ accepted tt → (o ≡ none) × (k ≡ accepted tt)
@@ -149,14 +148,12 @@ module _ (L : Layout) (B : ℕ) (img : List ℕ) where
         | no q ↦ each-in-turn j y zs (p .1) (omega (arith, copies-cons y z zs, hit-other y z q))
       ]
 
-  turn-full : (x : ℕ) (r : Result (List ℕ)) → inTurn L x r ≡ true → (length (listOf r) ≡ L .frontSlots) × (largest (listOf r) ≤ x)
+  pub turn-full : (x : ℕ) (r : Result (List ℕ)) → inTurn L x r ≡ true → (length (listOf r) ≡ L .frontSlots) × (largest (listOf r) ≤ x)
   turn-full x (accepted xs) e =
-      let p = both-true (eqb (length xs) (L .frontSlots)) (leb (largest xs) x) e in
-      (eqb-true _ _ (p .0), leb-true _ _ (p .1))
+      (search (left-true, eqb-true), search (right-true, leb-true))
   turn-full x (refused n i) e = let z : _≡_ {A = ℕ} 0 1 = cc in absurd (omega arith)
 
-module _ (L : Layout) (fits : Fits64 L) (B : ℕ) (img : List ℕ) (bytes : (i : ℕ) → getD img i 0 < 256) (size : sizeOf (length img) ≡ some B)
-    (checked : checkSized L B img ≡ accepted tt) where
+module _ (L : Layout) (B : ℕ) (img : List ℕ) (checked : checkSized L B img ≡ accepted tt) where
   passed : (unsoundFront L (fronts B) 0 img ≡ none) × (unsoundBack L B (backyards B) 0 img ≡ none) × (early L B (backyards B) 0 img ≡ none)
   unfolding checkSized
   passed =
@@ -164,22 +161,29 @@ module _ (L : Layout) (fits : Fits64 L) (B : ℕ) (img : List ℕ) (bytes : (i :
       let q = unless-passed _ 3 _ (p .1) in
       (p .0, q .0, unless-passed _ 8 _ (q .1) .0)
 
-  front-passed : (f : ℕ) → f < fronts B → frontAt L f img ≡ accepted (frontView L B f img)
+  pub front-passed : (f : ℕ) → f < fronts B → frontAt L f img ≡ accepted (frontView L B f img)
   unfolding frontView unsoundFront
   front-passed f h =
       each-read (λ (e : ℕ). frontAt L e img) (λ (n e : ℕ). unsoundFront L n e img) (λ n e. refl) (fronts B) 0 f (passed .0) (omega arith) (omega arith)
 
-  back-passed : (j : ℕ) → j < backyards B → backAt L B j img ≡ accepted (backView L B j img)
+  pub back-passed : (j : ℕ) → j < backyards B → backAt L B j img ≡ accepted (backView L B j img)
   unfolding backView unsoundBack
   back-passed j h =
       each-read (λ (e : ℕ). backAt L B e img) (λ (n e : ℕ). unsoundBack L B n e img) (λ n e. refl) (backyards B) 0 j (passed .1) (omega arith) (omega arith)
 
+  pub in-turn-passed : (j y : ℕ) → j < backyards B → 0 < copies y (backView L B j img) → homeInTurn L (home B j (y % 16)) (y / 16) img ≡ true
+  in-turn-passed j y h c =
+      let whole = rw (back-passed j h) at (none-before L B img (backyards B) 0 j (passed .2) (omega arith) (omega arith)) in
+      each-in-turn L B img j y (backView L B j img) whole c
+
+module _ (L : Layout) (fits : Fits64 L) (B : ℕ) (img : List ℕ) (bytes : (i : ℕ) → getD img i 0 < 256) (size : sizeOf (length img) ≡ some B)
+    (checked : checkSized L B img ≡ accepted tt) where
   front-list : (f : ℕ) → f < fronts B → FrontList L (frontView L B f img)
   unfolding frontAt
   front-list f h =
       let inside : 64 * f + 64 ≤ length img = rw (sizeOf-some (length img) B size .0) (front-inside B f h) in
       frontMembers-list L fits (bucketAt f img) (frontView L B f img) (below-bucket f img bytes) (length-bucketAt f img inside)
-      (was-sound f (frontMembers L (bucketAt f img)) (frontView L B f img) (front-passed f h))
+      (was-sound f (frontMembers L (bucketAt f img)) (frontView L B f img) (front-passed L B img checked f h))
 
   back-list : (j : ℕ) → j < backyards B → BackList L B j (backView L B j img)
   unfolding backAt
@@ -187,7 +191,7 @@ module _ (L : Layout) (fits : Fits64 L) (B : ℕ) (img : List ℕ) (bytes : (i :
       let i : ℕ = fronts B + j in
       let inside : 64 * i + 64 ≤ length img = rw (sizeOf-some (length img) B size .0) (back-inside B j h) in
       backMembers-list L fits B j (bucketAt i img) (backView L B j img) (below-bucket i img bytes) (length-bucketAt i img inside)
-      (was-sound i (backMembers L B j (bucketAt i img)) (backView L B j img) (back-passed j h))
+      (was-sound i (backMembers L B j (bucketAt i img)) (backView L B j img) (back-passed L B img checked j h))
 
   part-turn : (t : Bool) (f x : ℕ) → f < fronts B → 0 < part L B t f x img
       → (length (frontView L B f img) ≡ L .frontSlots) × (largest (frontView L B f img) ≤ x)
@@ -195,8 +199,7 @@ module _ (L : Layout) (fits : Fits64 L) (B : ℕ) (img : List ℕ) (bytes : (i :
   part-turn t f x h c =
       let j : ℕ = bucketOf t B f in
       let l : j < backyards B = bucketOf-lt t B f h in
-      let whole = rw (back-passed j l) at (none-before L B img (backyards B) 0 j (passed .2) (omega arith) (omega arith)) in
-      let mine = each-in-turn L B img j (x * 16 + crumbOf t f) (backView L B j img) whole c in
+      let mine = in-turn-passed L B img checked j (x * 16 + crumbOf t f) l c in
       let low : (x * 16 + crumbOf t f) % 16 ≡ crumbOf t f = omega (arith, crumbOf-lt t f) in
       let high : (x * 16 + crumbOf t f) / 16 ≡ x = omega (arith, crumbOf-lt t f) in
       turn-full L B img x (frontAt L f img) (rw (low, high, home-bucketOf t B f h) at mine)
@@ -204,9 +207,9 @@ module _ (L : Layout) (fits : Fits64 L) (B : ℕ) (img : List ℕ) (bytes : (i :
   pub good-checked : Good L B img
   good-checked = record {
     size = size;
-    front = front-passed;
+    front = front-passed L B img checked;
     frontGood = front-list;
-    back = back-passed;
+    back = back-passed L B img checked;
     backGood = back-list;
     turn = λ f x h c. elim (ℕ-discrete (part L B true f x img) 0) [
       | yes e ↦ part-turn false f x h (omega arith)

@@ -6,17 +6,17 @@ use mathlib.Core.List.{List, [], _∷_}
 use native.Mathlib.Omega.{arith, by-contra}
 use native.Mathlib.Decide.{ℕ-discrete}
 use lib.ListN.{length}
-use lib.Dec.{ltb, eqb}
+use lib.Dec.{ltb, eqb, T}
 use borrow.Author.Tests.{lt-ltb, le-ltb, eq-eqb}
-use Rattle.multiset.specs.Multisets.{added, removed, copies, largest}
+use Rattle.multiset.specs.Multisets.{added, removed, copies, largest, ascending}
 use Rattle.multiset.proofs.MultisetLaws.{copies-cons, copies-added, copies-removed, length-added, length-removed, below-copies, largest-max, copies-largest, head-least}
 use Rattle.crumbmap.specs.Layouts.{Layout, keys, fronts}
 use Rattle.crumbmap.specs.CrumbMap.{bucketOf, crumbOf}
 use Rattle.buckets.specs.Buckets.{Fits64, FrontList}
-use Rattle.machine.specs.Results.{accepted, refused}
+use Rattle.machine.specs.Results.{Result, accepted, refused}
 use Rattle.machine.specs.Images.{frontAt, backAt, putFront, putBack}
 use Rattle.machine.specs.Bags.{fromFirst}
-use Rattle.machine.specs.Machine.{changed, takeOut, refill, deleteAt}
+use Rattle.machine.specs.Machine.{Change, changed, takeOut, refill, deleteAt}
 use Rattle.machine.proofs.BagLaws.{has-yes, has-no, fromFirst-has}
 use Rattle.machine.proofs.Invariant.{frontView, part, over, total, Good, OneMore}
 use Rattle.machine.proofs.Overflow.{held, carried, overs, copies-carried, copies-overs, read-held, ascending-overs, below-overs}
@@ -82,11 +82,16 @@ module _ (L : Layout) (fits : Fits64 L) (B f x : ℕ) (img : List ℕ) (good : G
       w : FrontWritten L B f (removed x xs) img thin
       w = front-written L fits B f h img good (removed x xs) (front-removed L x xs list c) (λ y o. absurd (omega (arith, none y, o)))
 
+  -- a list of all of f's overflow, ascending
+  record Overflows (vs : List ℕ) : Type 0 where
+    each : (y : ℕ) → copies y vs ≡ over L B f y img
+    order : T (ascending vs)
+
   -- x left the front bucket, and v, the smallest of the overflow, came in its place
   abbrev mid : ℕ → List ℕ
   mid v = putFront L f (added v (removed x xs)) img
 
-  refilled : (v : ℕ) (vs : List ℕ) → overs L B f img ≡ v ∷ vs → 0 < copies x xs → length xs ≡ L .frontSlots
+  refilled : (v : ℕ) (vs : List ℕ) → Overflows (v ∷ vs) → 0 < copies x xs → length xs ≡ L .frontSlots
       → Good L B (without v (mid v)) × OneMore L B f x (without v (mid v)) img
   refilled v vs e c s = (
     o .0,
@@ -111,10 +116,10 @@ module _ (L : Layout) (fits : Fits64 L) (B f x : ℕ) (img : List ℕ) (good : G
   )
     where
       least : (y : ℕ) → 0 < over L B f y img → v ≤ y
-      least y o = head-least y v vs (rw e at (ascending-overs L B f img good h)) (rw (← e) (omega (arith, copies-overs L B f img y)))
+      least y o = head-least y v vs (e .order) (omega (arith, e .each y))
 
       v-over : 0 < over L B f v img
-      v-over = omega (arith, copies-overs L B f img v, ap (copies v) e, copies-cons v v vs, hit-of v v refl)
+      v-over = omega (arith, e .each v, copies-cons v v vs, hit-of v v refl)
 
       v-key : v < keys L
       v-key = below-copies (keys L) v (overs L B f img) (below-overs L B f img good h) (omega (arith, copies-overs L B f img v, v-over))
@@ -148,17 +153,35 @@ module _ (L : Layout) (fits : Fits64 L) (B f x : ℕ) (img : List ℕ) (good : G
       let p : Good L B thin × OneMore L B f x thin img = thins c none in
       gone 0 thin (rw (read, has-yes x xs c, lt-ltb (length xs) (L .frontSlots) r)) (p .0) (p .1)
 
+  -- a call that gave r took one copy of x out
+  record Took (r : Result Change) : Type 0 where
+    answer : ℕ
+    now : List ℕ
+    is : r ≡ changed answer now
+    good-now : Good L B now
+    less : OneMore L B f x now img
+
   -- x stands in front, with no slot left there: the overflow refills it
-  refills : (o : List ℕ) → overs L B f img ≡ o → 0 < copies x xs → length xs ≡ L .frontSlots → Deleted L B f x img
-  unfolding deleteAt refill copies
-  refills [] e c s =
-      let p : Good L B thin × OneMore L B f x thin img = thins c (λ y. sym (copies-overs L B f img y) ∙ ap (copies y) e) in
-      gone 0 thin (rw (read, has-yes x xs c, no-slot s, read-back true, read-back false, e)) (p .0) (p .1)
-  refills (v ∷ vs) e c s =
+  refill-took : (vs : List ℕ) → Overflows vs → 0 < copies x xs → length xs ≡ L .frontSlots
+      → Took (refill L B f (removed x xs) vs (ys true, ys false) img)
+  unfolding refill copies
+  refill-took [] e c s =
+      let p : Good L B thin × OneMore L B f x thin img = thins c (λ y. sym (e .each y)) in
+      record { answer = 0; now = thin; is = refl; good-now = p .0; less = p .1 }
+  refill-took (v ∷ vs) e c s =
       let p : Good L B (without v (mid v)) × OneMore L B f x (without v (mid v)) img = refilled v vs e c s in
-      gone (1 + bucketOf (choice v) B f) (without v (mid v))
-      (rw (read, has-yes x xs c, no-slot s, read-back true, read-back false, e) (takeOut-is v (mid v)))
-      (p .0) (p .1)
+      record { answer = 1 + bucketOf (choice v) B f; now = without v (mid v); is = takeOut-is v (mid v); good-now = p .0; less = p .1 }
+
+  delete-took : 0 < copies x xs → length xs ≡ L .frontSlots → Took (deleteAt L B f x img)
+  unfolding deleteAt
+  delete-took c s =
+      rw (read, has-yes x xs c, no-slot s, read-back true, read-back false)
+      (refill-took _ (record { each = λ y. omega (arith, copies-overs L B f img y); order = ascending-overs L B f img good h }) c s)
+
+  refills : 0 < copies x xs → length xs ≡ L .frontSlots → Deleted L B f x img
+  refills c s =
+      let t : Took (deleteAt L B f x img) = delete-took c s in
+      gone (t .answer) (t .now) (t .is) (t .good-now) (t .less)
 
   -- x may stand in the backyard: "Front(f) holds 28 and g exceeds its largest"
   abbrev beyond : Bool
@@ -204,7 +227,7 @@ module _ (L : Layout) (fits : Fits64 L) where
           | no o ↦ leaves L fits B f x img good h n (over-beyond L fits B f x img good h n (omega arith)) (omega arith)
         ]
         | no c ↦ elim (ℕ-discrete (length xs) (L .frontSlots)) [
-          | yes s ↦ refills L fits B f x img good h (overs L B f img) refl (omega arith) s
+          | yes s ↦ refills L fits B f x img good h (omega arith) s
           | no r ↦ shrinks L fits B f x img good h (omega arith) (omega (arith, good .frontGood f h .room))
         ]
       ]

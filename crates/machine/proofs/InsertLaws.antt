@@ -17,6 +17,7 @@ use Rattle.buckets.specs.Buckets.{Fits64, FrontList}
 use Rattle.machine.specs.Results.{accepted, refused}
 use Rattle.machine.specs.Images.{frontAt, backAt, putFront, putBack}
 use Rattle.machine.specs.Machine.{insertAt, full}
+use Rattle.machine.proofs.Tests.{both-true}
 use Rattle.machine.proofs.Invariant.{frontView, Good, OneMore}
 use Rattle.machine.proofs.Overflow.{held, read-held, held-list}
 use Rattle.machine.proofs.Members.{hit-of, hit-equal, hit-le-one, largest-le, cond-choice, front-added}
@@ -67,7 +68,8 @@ module _ (L : Layout) (fits : Fits64 L) (B f x : ℕ) (img : List ℕ) (good : G
   stays : length xs ≡ L .frontSlots → bothFull ≡ true → Inserted L B f x img
   unfolding insertAt
   stays s q =
-      stuck (rw (read, le-ltb (length xs) (L .frontSlots) (omega arith), read-back true, read-back false, q))
+      let each = both-true (eqb (length (ys true)) (L .backSlots)) (eqb (length (ys false)) (L .backSlots)) q in
+      stuck (simp (read, le-ltb (length xs) (L .frontSlots) (omega arith), read-back true, read-back false, each .0, each .1))
       (rw (full-is, eq-eqb (length xs) (L .frontSlots) s) q)
 
   -- what goes, and what remains in front
@@ -150,7 +152,7 @@ module _ (L : Layout) (fits : Fits64 L) (B f x : ℕ) (img : List ℕ) (good : G
   spills t s q e =
       let o : Good L B (now t) × OneMore L B f x img (now t) = spilled t s (chosen t q e) in
       took (1 + bucketOf t B f) (now t)
-      (rw (read, le-ltb (length xs) (L .frontSlots) (omega arith), read-back true, read-back false, q, e, cond-choice ys t))
+      (simp (read, le-ltb (length xs) (L .frontSlots) (omega arith), read-back true, read-back false, q, e, cond-choice ys t))
       (rw (full-is, eq-eqb (length xs) (L .frontSlots) s) q) (o .0) (o .1)
 
   at-full : (b : Bool) → bothFull ≡ b → length xs ≡ L .frontSlots → Inserted L B f x img

@@ -160,19 +160,19 @@ module _ (L : Layout) (fits : Fits64 L) where
       third : (xs ys i j : List ℕ) → membersAt L B f a ≡ accepted xs → membersAt L B f b ≡ accepted ys → Members L B f a xs → Members L B f b ys
           → insertAll L B f xs img ≡ accepted i → insertAll L B f ys i ≡ accepted j → More L B f xs img i → More L B f ys i j
           → Merged L B n (suc f) a b j → Merged L B (suc n) f a b img
-      third xs ys i j ea eb ma mb ei ej mi mj (overfull e) = overfull (rw (ea, eb, ei, ej, e) refl)
+      third xs ys i j ea eb ma mb ei ej mi mj (overfull e) = overfull (simp (ea, eb, ei, ej, e))
       third xs ys i j ea eb ma mb ei ej mi mj (joined now e g m) =
-          joined now (rw (ea, eb, ei, ej, e) refl) g (both-next B f a b xs ys img i j now (omega arith) ma mb mi mj m)
+          joined now (simp (ea, eb, ei, ej, e)) g (both-next B f a b xs ys img i j now (omega arith) ma mb mi mj m)
 
       second : (xs ys i : List ℕ) → membersAt L B f a ≡ accepted xs → membersAt L B f b ≡ accepted ys → Members L B f a xs → Members L B f b ys
           → insertAll L B f xs img ≡ accepted i → More L B f xs img i → InsertedAll L B f ys i
           → ((j : List ℕ) → Good L B j → Merged L B n (suc f) a b j) → Merged L B (suc n) f a b img
-      second xs ys i ea eb ma mb ei mi (stuck-in e) k = overfull (rw (ea, eb, ei, e) refl)
+      second xs ys i ea eb ma mb ei mi (stuck-in e) k = overfull (simp (ea, eb, ei, e))
       second xs ys i ea eb ma mb ei mi (took-all j ej g mj) k = third xs ys i j ea eb ma mb ei ej mi mj (k j g)
 
       first : (xs ys : List ℕ) → membersAt L B f a ≡ accepted xs → membersAt L B f b ≡ accepted ys → Members L B f a xs → Members L B f b ys
           → InsertedAll L B f xs img → ((j : List ℕ) → Good L B j → Merged L B n (suc f) a b j) → Merged L B (suc n) f a b img
-      first xs ys ea eb ma mb (stuck-in e) k = overfull (rw (ea, eb, e) refl)
+      first xs ys ea eb ma mb (stuck-in e) k = overfull (simp (ea, eb, e))
       first xs ys ea eb ma mb (took-all i ei g mi) k = second xs ys i ea eb ma mb ei mi (insertAll-keeps B f ys i g (omega arith) (mb .range)) k
 
   -- a merge of two good images: checked, then put into the empty image

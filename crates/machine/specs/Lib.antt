@@ -5,5 +5,6 @@ pub mod Bags
 pub mod Machine
 pub mod Pages
 pub mod Checks
+pub mod Homes
 pub mod Merges
 pub mod Calls
