@@ -1,6 +1,6 @@
 // Merge: "the target becomes fresh, then for f = 0 up inserts the first's members of f ascending, then the second's".
 // "Where just one of the two front buckets has members, its 64 bytes serve as the merged front bucket." Where both have, what those
-// inserts leave in front is written once, and what they send behind goes there in their order.
+// inserts leave in front is written once, and what they send behind goes there in their order. The select table is copied once a call, and lent.
 
 use crate::settle::settle;
 use answers::Done;
@@ -23,6 +23,7 @@ use image::place::size_of;
 use listing::lists::merge_into;
 use listing::members::list_members;
 use validation::check::check_sized;
+use words::select::entries;
 ghost use mathlib.Core.Path.{_≡_};
 ghost use Prim.Native.Nat.{_+_, _*_, _<_, _≤_};
 ghost use mathlib.Core.List.{[]};
@@ -30,6 +31,7 @@ ghost use lib.ListN.{length, take};
 ghost use lib.Dec.{T};
 ghost use Rattle.multiset.specs.Multisets.{added, ascending, Below};
 ghost use Rattle.crumbmap.specs.Layouts.{layout1, keys as allKeys, fronts};
+ghost use Rattle.words.specs.Select.{selectTable};
 ghost use Rattle.buckets.specs.Buckets.{FrontList};
 ghost use Rattle.machine.specs.Results.{refused, andThen};
 ghost use Rattle.machine.specs.Images.{emptyImage, putFront, putBack};
@@ -83,7 +85,8 @@ fn merge_checked<'a>(first: &'a [u8], second: &'a [u8], size: usize, target: &mu
         (now (target .entry)) r (now (target .exit)) ⌝ }
 {
     fresh(target);
-    if merge_fronts(first, second, size, target) {
+    let table = entries();
+    if merge_fronts(&table, first, second, size, target) {
         return Done::Accepted;
     }
     give_up(target, size)
@@ -99,15 +102,21 @@ fn give_up(target: &mut [u8], size: usize) -> Done
 }
 
 // All front buckets into a fresh target, until it is full.
-fn merge_fronts<'a>(first: &'a [u8], second: &'a [u8], size: usize, target: &mut [u8]) -> bool
-    requires { ⌜ Checked size (now first) × Checked size (now second) × (now target ≡ emptyImage layout1 size) ⌝ }
+fn merge_fronts<'a>(
+    table: &[u8],
+    first: &'a [u8],
+    second: &'a [u8],
+    size: usize,
+    target: &mut [u8],
+) -> bool
+    requires { ⌜ (now table ≡ selectTable) × Checked size (now first) × Checked size (now second) × (now target ≡ emptyImage layout1 size) ⌝ }
     ensures { λ r. ⌜ reached r (now (target .exit))
         ≡ mergeFrom layout1 size (fronts size) 0 (now (first .entry)) (now (second .entry)) (now (target .entry)) ⌝ }
 {
     let end = 8 * size;
     let mut f = 0;
     while f < end {
-        if !merge_front(first, second, size, Front(f), target) {
+        if !merge_front(table, first, second, size, Front(f), target) {
             return false;
         }
         f += 1;
@@ -117,50 +126,52 @@ fn merge_fronts<'a>(first: &'a [u8], second: &'a [u8], size: usize, target: &mut
 
 // One front bucket of both into a target whose own is empty.
 fn merge_front<'a>(
+    table: &[u8],
     first: &'a [u8],
     second: &'a [u8],
     size: usize,
     front: Front,
     target: &mut [u8],
 ) -> bool
-    requires { ⌜ Checked size (now first) × Checked size (now second) × Checked size (now target)
+    requires { ⌜ (now table ≡ selectTable) × Checked size (now first) × Checked size (now second) × Checked size (now target)
         × (front .0 < fronts size) × (inFront (front .0) (now target) ≡ []) ⌝ }
     ensures { λ r. ⌜ reached r (now (target .exit))
         ≡ bothInserted size (front .0) (now (first .entry)) (now (second .entry)) (now (target .entry)) ⌝ }
 {
     if count_front_at(first, front) == 0 {
-        return take_over(first, second, size, front, target);
+        return take_over(table, first, second, size, front, target);
     }
     if count_front_at(second, front) == 0 {
-        return take_over(first, second, size, front, target);
+        return take_over(table, first, second, size, front, target);
     }
-    merge_both(first, second, size, front, target)
+    merge_both(table, first, second, size, front, target)
 }
 
 // The same where at most one of the two front buckets has members: its bytes serve.
 fn take_over<'a>(
+    table: &[u8],
     first: &'a [u8],
     second: &'a [u8],
     size: usize,
     front: Front,
     target: &mut [u8],
 ) -> bool
-    requires { ⌜ Checked size (now first) × Checked size (now second) × Checked size (now target)
+    requires { ⌜ (now table ≡ selectTable) × Checked size (now first) × Checked size (now second) × Checked size (now target)
         × (front .0 < fronts size) × (inFront (front .0) (now target) ≡ [])
         × (0 < length (inFront (front .0) (now first)) → length (inFront (front .0) (now second)) ≡ 0) ⌝ }
     ensures { λ r. ⌜ reached r (now (target .exit))
         ≡ bothInserted size (front .0) (now (first .entry)) (now (second .entry)) (now (target .entry)) ⌝ }
 {
     write_front_at(target, front, whichever(first, second, front));
-    if add_behind(first, size, front, target) {
-        return add_behind(second, size, front, target);
+    if add_behind(table, first, size, front, target) {
+        return add_behind(table, second, size, front, target);
     }
     false
 }
 
 // Those behind a source's front bucket, behind the target's.
-fn add_behind(source: &[u8], size: usize, front: Front, target: &mut [u8]) -> bool
-    requires { ⌜ Checked size (now source) × BehindRead size (front .0) (now target) ⌝ }
+fn add_behind(table: &[u8], source: &[u8], size: usize, front: Front, target: &mut [u8]) -> bool
+    requires { ⌜ (now table ≡ selectTable) × Checked size (now source) × BehindRead size (front .0) (now target) ⌝ }
     ensures { λ r. ⌜ (reached r (now (target .exit))
         ≡ pushAll layout1 size (front .0) (behindIn size (front .0) (now (source .entry))) (now (target .entry)))
         × BehindRead size (front .0) (now (target .exit)) ⌝ }
@@ -170,18 +181,19 @@ fn add_behind(source: &[u8], size: usize, front: Front, target: &mut [u8]) -> bo
     }
     let mut keys = [0u32; 72];
     let n = list_members(source, size, front, &mut keys);
-    push_all(&keys[28..n], size, front, target)
+    push_all(table, &keys[28..n], size, front, target)
 }
 
 // The same where both have members: the two lists of them are put in.
 fn merge_both<'a>(
+    table: &[u8],
     first: &'a [u8],
     second: &'a [u8],
     size: usize,
     front: Front,
     target: &mut [u8],
 ) -> bool
-    requires { ⌜ Checked size (now first) × Checked size (now second) × Checked size (now target)
+    requires { ⌜ (now table ≡ selectTable) × Checked size (now first) × Checked size (now second) × Checked size (now target)
         × (front .0 < fronts size) × (inFront (front .0) (now target) ≡ []) ⌝ }
     ensures { λ r. ⌜ reached r (now (target .exit))
         ≡ bothInserted size (front .0) (now (first .entry)) (now (second .entry)) (now (target .entry)) ⌝ }
@@ -190,12 +202,12 @@ fn merge_both<'a>(
     let mut b = [0u32; 72];
     let n = list_members(first, size, front, &mut a);
     let m = list_members(second, size, front, &mut b);
-    join(&a[..n], &b[..m], size, front, target)
+    join(table, &a[..n], &b[..m], size, front, target)
 }
 
 // Two ascending lists of keys into a front bucket that is empty: what stays is written, then what leaves goes behind it.
-fn join(a: &[u32], b: &[u32], size: usize, front: Front, target: &mut [u8]) -> bool
-    requires { ⌜ Checked size (now target) × (front .0 < fronts size) × (inFront (front .0) (now target) ≡ [])
+fn join(table: &[u8], a: &[u32], b: &[u32], size: usize, front: Front, target: &mut [u8]) -> bool
+    requires { ⌜ (now table ≡ selectTable) × Checked size (now target) × (front .0 < fronts size) × (inFront (front .0) (now target) ≡ [])
         × T (ascending (now a)) × T (ascending (now b)) × Below (allKeys layout1) (now a) × Below (allKeys layout1) (now b) × (length (now b) ≤ 72) ⌝ }
     ensures { λ r. ⌜ reached r (now (target .exit))
         ≡ andThen (insertAll layout1 size (front .0) (now (a .entry)) (now (target .entry))) (insertAll layout1 size (front .0) (now (b .entry))) ⌝ }
@@ -203,8 +215,8 @@ fn join(a: &[u32], b: &[u32], size: usize, front: Front, target: &mut [u8]) -> b
     let mut over = [0u32; 72];
     let own = in_front(a.len());
     let gone = fill_both(&a[..own], b, front, &mut over, target);
-    if push_all(&a[own..], size, front, target) {
-        return push_all(&over[..gone], size, front, target);
+    if push_all(table, &a[own..], size, front, target) {
+        return push_all(table, &over[..gone], size, front, target);
     }
     false
 }
@@ -235,14 +247,14 @@ fn fill_both(a: &[u32], b: &[u32], front: Front, over: &mut [u32], target: &mut 
 }
 
 // Keys behind a front bucket, one after the other, until both backyard buckets are full.
-fn push_all(keys: &[u32], size: usize, front: Front, target: &mut [u8]) -> bool
-    requires { ⌜ BehindRead size (front .0) (now target) × Below (allKeys layout1) (now keys) ⌝ }
+fn push_all(table: &[u8], keys: &[u32], size: usize, front: Front, target: &mut [u8]) -> bool
+    requires { ⌜ (now table ≡ selectTable) × BehindRead size (front .0) (now target) × Below (allKeys layout1) (now keys) ⌝ }
     ensures { λ r. ⌜ (reached r (now (target .exit)) ≡ pushAll layout1 size (front .0) (now (keys .entry)) (now (target .entry)))
         × BehindRead size (front .0) (now (target .exit)) ⌝ }
 {
     let mut i = 0;
     while i < keys.len() {
-        if !push(target, size, front, keys[i]) {
+        if !push(table, target, size, front, keys[i]) {
             return false;
         }
         i += 1;
@@ -251,8 +263,8 @@ fn push_all(keys: &[u32], size: usize, front: Front, target: &mut [u8]) -> bool
 }
 
 // A key behind a front bucket: "to First(f) if n0 < n1, else to Second(f)". Where n0 is not below n1, both hold 22 if b1 does.
-fn push(image: &mut [u8], size: usize, front: Front, key: u32) -> bool
-    requires { ⌜ BehindRead size (front .0) (now image) × (key < allKeys layout1) ⌝ }
+fn push(table: &[u8], image: &mut [u8], size: usize, front: Front, key: u32) -> bool
+    requires { ⌜ (now table ≡ selectTable) × BehindRead size (front .0) (now image) × (key < allKeys layout1) ⌝ }
     ensures { λ r. ⌜ (reached r (now (image .exit)) ≡ pushAt layout1 size (front .0) key (now (image .entry)))
         × BehindRead size (front .0) (now (image .exit)) ⌝ }
 {
@@ -261,23 +273,23 @@ fn push(image: &mut [u8], size: usize, front: Front, key: u32) -> bool
     let n0 = count_back_at(image, size, first.bucket);
     let n1 = count_back_at(image, size, second.bucket);
     if n0 < n1 {
-        put_behind(image, size, first, key);
+        put_behind(table, image, size, first, key);
         return true;
     }
     if n1 == 22 {
         return false;
     }
-    put_behind(image, size, second, key);
+    put_behind(table, image, size, second, key);
     true
 }
 
 // A key joins a sound backyard bucket that has a free slot, with the crumb that it carries there.
-fn put_behind(image: &mut [u8], size: usize, way: Overflow, key: u32)
-    requires { ⌜ BackRead size (way .bucket .0) (now image) × (length (inBack size (way .bucket .0) (now image)) < 22) × (way .crumb < 16) × (key < allKeys layout1) ⌝ }
+fn put_behind(table: &[u8], image: &mut [u8], size: usize, way: Overflow, key: u32)
+    requires { ⌜ (now table ≡ selectTable) × BackRead size (way .bucket .0) (now image) × (length (inBack size (way .bucket .0) (now image)) < 22) × (way .crumb < 16) × (key < allKeys layout1) ⌝ }
     ensures { λ _. ⌜ now (image .exit) ≡ putBack layout1 size (way .bucket .0)
         (added (key * 16 + way .crumb) (inBack size (way .bucket .0) (now (image .entry)))) (now (image .entry)) ⌝ }
 {
     let member = key * 16 + way.crumb;
-    let slot = rank_back_at(image, size, way.bucket, member);
+    let slot = rank_back_at(table, image, size, way.bucket, member);
     insert_back_at(image, size, way.bucket, slot, member);
 }

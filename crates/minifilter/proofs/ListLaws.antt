@@ -1,6 +1,6 @@
--- The members of a sound bucket one by one: the zeros of its word in turn, the one of a given slot, the highest; its keys, all of them and
+-- The members of a sound bucket one by one: the zeros of its word in turn, the highest; its keys, all of them and
 -- those that carry a crumb.
--- Main results: member-select, last-leading, turn, listed-yes, listed-no, carrying-first, member-stored.
+-- Main results: last-leading, turn, listed-yes, listed-no, carrying-first, member-stored.
 use mathlib.Core.Path.{_≡_, refl, sym, ap, _∙_}
 use Prim.Native.Nat.{ℕ, zero, suc, _+_, _*_, _/_, _%_, _-_, _^_, _≤_, _<_}
 use mathlib.Core.Bool.{Bool, true, false}
@@ -16,8 +16,7 @@ use lib.Bits.{bitAnd}
 use lib.Dec.{T, lit<}
 use borrow.Author.Tests.{eq-eqb, ne-eqb, eqb-true, eqb-false}
 use Rattle.multiset.specs.Multisets.{largest, ascending, below, Below}
-use Rattle.multiset.specs.Digits.{value, spread, grouped, highs}
-use Rattle.words.specs.Select.{selectIn}
+use Rattle.multiset.specs.Digits.{spread, grouped, highs}
 use Rattle.buckets.specs.Buckets.{carrying}
 use Rattle.buckets.specs.Words.{minisOf}
 use Rattle.minifilter.specs.Readings.{firstOf}
@@ -32,26 +31,6 @@ use Rattle.minifilter.proofs.PassLaws.{length-slotMinis, slotMinis-run}
 use Rattle.minifilter.proofs.FindLaws.{Held, getD-highs}
 
 -- ---- the complement z of a word
-
--- the one of rank r in it is the zero of slot r
-zeros-select : {n m : ℕ} {ms : List ℕ} {w : ℕ} (d z r : ℕ) → Coded n m ms w → n + length ms ≤ d → w + z + 1 ≡ 2 ^ d → r < length ms
-    → selectIn d z r + m ≡ getD ms r 0 + r
-unfolding selectIn
-zeros-select d z r (Coded.done) h e l = absurd (omega arith)
-zeros-select zero z r (Coded.member c) h e l = absurd (omega arith)
-zeros-select (suc d) z zero (Coded.member {n} {m} {ms} {w} c) h e l =
-    let p : 2 ^ suc d ≡ 2 * 2 ^ d = pow-succ' 2 d in
-    let one : z % 2 ≡ 1 = omega arith in
-    rw one (omega arith)
-zeros-select (suc d) z (suc r) (Coded.member {n} {m} {ms} {w} c) h e l =
-    let p : 2 ^ suc d ≡ 2 * 2 ^ d = pow-succ' 2 d in
-    let one : z % 2 ≡ 1 = omega arith in
-    rw one (omega (arith, zeros-select d (z / 2) r c (omega arith) (omega arith) (omega arith)))
-zeros-select zero z r (Coded.end c) h e l = absurd (omega arith)
-zeros-select (suc d) z r (Coded.end {n} {m} {ms} {w} c) h e l =
-    let p : 2 ^ suc d ≡ 2 * 2 ^ d = pow-succ' 2 d in
-    let none : z % 2 ≡ 0 = omega arith in
-    rw none (omega (arith, zeros-select d (z / 2) r c (omega arith) (omega arith) l))
 
 -- a word with no member is all ones
 full-coded : {n m : ℕ} {ms : List ℕ} {w : ℕ} → Coded n m ms w → length ms ≡ 0 → w + 1 ≡ 2 ^ n
@@ -131,12 +110,6 @@ last-leading z {w} {ms} c l e =
     let top = zeros-top 0 (m + 27) z c (omega arith) (rw l e) (omega (arith, lastOf-at 0 ms 27 l)) in
     let p : 2 ^ suc (m + 27) ≡ 2 * 2 ^ (m + 27) = pow-succ' 2 (m + 27) in
     omega (arith, leading-unique 64 z (36 - m) (suc (m + 27)) (omega arith) (top .1) (omega (arith, top .0)))
-
-pub member-select : (crumbs : Bool) (b ys : List ℕ) (h : Held crumbs b ys) (z i : ℕ) → length ys ≤ 28 → value 256 (take 8 b) + z + 1 ≡ 2 ^ 64
-    → i < length ys → selectIn 64 z i ≡ getD (highs (spanOf crumbs) ys) i 0 + i
-member-select crumbs b ys h z i room e l =
-    let len : length (highs (spanOf crumbs) ys) ≡ length ys = length-highs (spanOf crumbs) ys in
-    omega (arith, zeros-select 64 z i (h .coded) (omega arith) e (omega arith))
 
 -- the zeros from a slot on: where the lowest stands, and those above it
 pub record Turn (w slot zeros : ℕ) : Type 0 where

@@ -1,6 +1,5 @@
 -- What search shares between the two kinds of bucket: its members, and the part of a member below its mini-bucket. A bucket with crumbs is a
 -- backyard bucket.
-use mathlib.Core.Path.{_≡_}
 use Prim.Native.Nat.{ℕ, _+_, _*_, _<_, _≤_}
 use mathlib.Core.Bool.{Bool, true, false}
 use mathlib.Core.List.{List}
@@ -34,12 +33,6 @@ pub record Scanned (crumbs : Bool) (b : List ℕ) (from past low r : ℕ) : Type
   pub stop : r ≤ past
   pub smaller : (i : ℕ) → from ≤ i → i < r → lowAt crumbs b i < low
   pub here : r < past → low ≤ lowAt crumbs b r
-
--- r is the first of `members` slots that holds the crumb, `members` where none does
-pub record FirstWith (crumb : ℕ) (b : List ℕ) (members r : ℕ) : Type 0 where
-  pub stop : r ≤ members
-  pub other : (i : ℕ) → i < r → getD (spread 16 2 (drop 52 b)) i 0 ≡ crumb → ⊥
-  pub here : r < members → getD (spread 16 2 (drop 52 b)) r 0 ≡ crumb
 
 -- whether a slot is among those asked for: all in a front bucket, in the backyard those that hold the crumb
 abbrev pub wantedAt : Bool → ℕ → List ℕ → ℕ → Bool

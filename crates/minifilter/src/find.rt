@@ -2,7 +2,6 @@
 
 use crate::Carried;
 use crate::slots;
-use words::select;
 use words::word;
 ghost use mathlib.Core.Path.{_≡_};
 ghost use Prim.Native.Nat.{_+_, _*_, _-_, _<_, _≤_};
@@ -12,10 +11,11 @@ ghost use lib.Count.{trailingZeros};
 ghost use Rattle.multiset.specs.Multisets.{below, copies, largest};
 ghost use Rattle.multiset.specs.Digits.{grouped};
 ghost use Rattle.crumbmap.specs.Layouts.{layout1, keys};
+ghost use Rattle.words.specs.Select.{selectTable};
 ghost use Rattle.buckets.specs.Buckets.{carrying};
 ghost use Rattle.minifilter.specs.Readings.{SoundFront, SoundBack, frontList, backList, firstOf};
 ghost use Rattle.minifilter.specs.Slots.{slotCount};
-ghost use Rattle.minifilter.specs.Searches.{Sound, membersOf, spanOf, lowAt, Scanned, FirstWith, wantedAt, chosen};
+ghost use Rattle.minifilter.specs.Searches.{Sound, membersOf, spanOf, lowAt, Scanned, wantedAt, chosen};
 
 // What the bytes hold of a slot.
 fn low_of(b: &[u8], crumbs: bool, slot: usize) -> u32
@@ -45,29 +45,14 @@ fn scan(b: &[u8], crumbs: bool, from: usize, past: usize, low: u32) -> usize
     slot
 }
 
-// How many members of a bucket of either kind are below one: those of the mini-buckets before its own, and in its own up to the first slot
-// that holds as much.
-fn rank_in(b: &[u8], crumbs: bool, mini: u32, low: u32) -> usize
-    requires { ⌜ Sound crumbs (now b) × (mini < 36) × (low < spanOf crumbs) ⌝ }
-    ensures { λ r. ⌜ r ≡ below (mini * spanOf crumbs + low) (membersOf crumbs (now (b .entry))) ⌝ }
-{
-    let slots = word::bounds(word::word_of(b), mini);
-    scan(b, crumbs, slots.from, slots.past, low)
-}
-
-// The same for a key in a front bucket, and for a member, key × 16 + crumb, in a backyard bucket.
-pub fn rank_front(b: &[u8], key: u32) -> usize
-    requires { ⌜ SoundFront (now b) × (key < keys layout1) ⌝ }
-    ensures { λ r. ⌜ r ≡ below key (frontList (now (b .entry))) ⌝ }
-{
-    rank_in(b, false, key / 65_536, key % 65_536)
-}
-
-pub fn rank_back(b: &[u8], member: u32) -> usize
-    requires { ⌜ SoundBack (now b) × (member < keys layout1 * 16) ⌝ }
+// How many members of a backyard bucket are below one, key × 16 + crumb: those of the mini-buckets before its own, and in its own up to
+// the first slot that holds as much.
+pub fn rank_back(table: &[u8], b: &[u8], member: u32) -> usize
+    requires { ⌜ (now table ≡ selectTable) × SoundBack (now b) × (member < keys layout1 * 16) ⌝ }
     ensures { λ r. ⌜ r ≡ below member (backList (now (b .entry))) ⌝ }
 {
-    rank_in(b, true, member / 1_048_576, member % 1_048_576)
+    let slots = word::bounds(table, word::word_of(b), member / 1_048_576);
+    scan(b, true, slots.from, slots.past, member % 1_048_576)
 }
 
 // The copies of a member, which stand from slot `slot` on. The zeros of the word from that slot's place are the rest of its mini-bucket.
@@ -117,20 +102,6 @@ pub fn largest_front(b: &[u8]) -> u32
 {
     let ones = u64::leading_zeros(!word::word_of(b));
     (36 - ones) * 65_536 + slots::tag_of(b, 27)
-}
-
-// The member at a slot in use of a bucket of either kind: the zero of slot i in mini-bucket m is bit m + i of the word.
-fn member_in(b: &[u8], crumbs: bool, slot: usize) -> u32
-    requires { ⌜ Sound crumbs (now b) × (slot < length (membersOf crumbs (now b))) ⌝ }
-    ensures { λ r. ⌜ r ≡ getD (membersOf crumbs (now (b .entry))) slot 0 ⌝ }
-{
-    let zeros = !word::word_of(b);
-    let mini = select::select(zeros, slot as u32) - (slot as u32);
-    let low = low_of(b, crumbs, slot);
-    if crumbs {
-        return mini * 1_048_576 + low;
-    }
-    mini * 65_536 + low
 }
 
 // The key of the slot whose zero is the lowest of `zeros`.
@@ -210,33 +181,24 @@ pub fn list_back(b: &[u8], out: &mut [u32]) -> usize
     slot
 }
 
-// The first of the slots in use that holds a crumb.
-fn first_slot(b: &[u8], members: usize, crumb: u32) -> usize
-    requires { ⌜ (length (now b) ≡ 64) × (members ≤ 22) ⌝ }
-    ensures { λ r. ⌜ FirstWith crumb (now (b .entry)) members r ⌝ }
-{
-    let mut slot = 0;
-    while slot < members {
-        let here = slots::crumb_of(b, slot);
-        if here == crumb {
-            return slot;
-        }
-        slot += 1;
-    }
-    slot
-}
-
-// The lowest of the keys that carry a crumb, and its slot.
+// The lowest of the keys that carry a crumb, and its slot: the first that holds the crumb.
 pub fn first_carrying(b: &[u8], crumb: u32) -> Carried
     requires { ⌜ SoundBack (now b) × (crumb < 16) ⌝ }
     ensures { λ r. ⌜ r ≡ firstOf crumb (backList (now (b .entry))) (carrying crumb (backList (now (b .entry)))) ⌝ }
 {
-    let members = word::occupancy(word::word_of(b));
-    let slot = first_slot(b, members, crumb);
-    if members <= slot {
-        return Carried::Nothing;
+    let word = word::word_of(b);
+    let members = word::occupancy(word);
+    let mut zeros = !word;
+    let mut slot: usize = 0;
+    while slot < members {
+        let here = slots::crumb_of(b, slot);
+        if here == crumb {
+            return Carried::Key(key_at(b, zeros, slot), slot);
+        }
+        zeros = zeros & (zeros - 1);
+        slot += 1;
     }
-    Carried::Key(member_in(b, true, slot) / 16, slot)
+    Carried::Nothing
 }
 
 // How many keys carry a crumb in a backyard bucket.

@@ -8,11 +8,10 @@ use native.Mathlib.Nat.{zero-add, add-zero, add-suc, suc-add, sub-zero}
 use native.Mathlib.Numerals.{add-one}
 use native.Mathlib.Omega.{arith}
 use lib.ListN.{length, getD}
-use lib.Pow.{field, mod-mod-pow, shr-shr}
+use lib.Pow.{field, mod-mod-pow}
 use lib.Count.{ones, onesIn, trailingZeros, ones-step, ones-le}
 use Rattle.multiset.specs.Multisets.{below}
-use Rattle.multiset.specs.Digits.{value}
-use Rattle.words.specs.Select.{above, selectIn, listed, pairs}
+use Rattle.words.specs.Select.{above, selectIn, listed, selectByte, selectTable}
 use Rattle.buckets.specs.Words.{minisOf}
 use Rattle.multiset.proofs.MultisetLaws.{below-le-length}
 use Rattle.buckets.proofs.WordLaws.{Coded, done, member, end, coded-run, shr-suc, below-run, below-cons-lt, slot-up, slot-first, past-end, coded-minisOf}
@@ -91,29 +90,22 @@ listed-at f from zero k h = absurd (omega arith)
 listed-at f from (suc n) zero h = rw (add-zero from)
 listed-at f from (suc n) (suc k) h = rw (add-suc from k) (rw (suc-add from k) at (listed-at f (suc from) n k (omega arith)))
 
--- as hex digits of one number, the lowest first
-pub listed-digit : (f : ℕ → ℕ) (from n k : ℕ) → ((i : ℕ) → f i < 16) → k < n → value 16 (listed f from n) / 2 ^ (4 * k) % 16 ≡ f (from + k)
-unfolding value
-listed-digit f from zero k l h = absurd (omega arith)
-listed-digit f from (suc n) zero l h = rw (add-zero from) (omega (arith, l from))
-listed-digit f from (suc n) (suc k) l h =
-    let v = value 16 (listed f (suc from) n) in
-    let e : 4 * suc k ≡ 4 + 4 * k = omega arith in
-    let q : (f from + 16 * v) / 16 ≡ v = omega (arith, l from) in
-    rw (add-suc from k, e, ← shr-shr (f from + 16 * v) 4 (4 * k), q) (rw (suc-add from k) at (listed-digit f (suc from) n k l (omega arith)))
+length-listed : (f : ℕ → ℕ) (from n : ℕ) → length (listed f from n) ≡ n
+length-listed f from zero = refl
+length-listed f from (suc n) = ap suc (length-listed f (suc from) n)
 
--- the table, read at a byte value's row, number and digit
-pub listed-entry : (byte rank : ℕ) → rank < 8
-    → getD (listed pairs (8 * (byte / 16)) 8) (byte / 2 % 8) 0 / 2 ^ (4 * (byte % 2 * 8 + rank)) % 16 ≡ selectIn 8 byte rank
-listed-entry byte rank l =
-    let i = byte % 2 * 8 + rank in
-    let k : 8 * (byte / 16) + byte / 2 % 8 ≡ byte / 2 = omega arith in
-    let b : 2 * (byte / 2) + i / 8 ≡ byte = omega arith in
+pub length-table : length selectTable ≡ 2048
+unfolding selectTable
+length-table = length-listed (λ (i : ℕ). selectByte (i / 8) (i % 8)) 0 2048
+
+-- the entry of a byte value and a rank
+pub listed-entry : (byte rank : ℕ) → byte < 256 → rank < 8 → getD selectTable (8 * byte + rank) 0 ≡ selectByte byte rank
+unfolding selectTable
+listed-entry byte rank h l =
+    let i = 8 * byte + rank in
+    let b : i / 8 ≡ byte = omega arith in
     let r : i % 8 ≡ rank = omega arith in
-    let f : ℕ → ℕ = λ j. selectIn 8 (2 * (byte / 2) + j / 8) (j % 8) in
-    rw (listed-at pairs (8 * (byte / 16)) 8 (byte / 2 % 8) (omega arith), k)
-    (listed-digit f 0 16 i (λ j. omega (arith, select-le 8 (2 * (byte / 2) + j / 8) (j % 8))) (omega arith)
-    ∙ rw (zero-add i, b, r))
+    listed-at (λ (k : ℕ). selectByte (k / 8) (k % 8)) 0 2048 i (omega arith) ∙ rw (zero-add i, b, r)
 
 -- ---- in a bucket's word
 

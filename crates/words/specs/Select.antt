@@ -1,11 +1,10 @@
 -- Select: the place of the one bit of a rank. "A table gives the place of the one bit of each rank 0 to 7 in every byte value, 8 where none:
--- 2,048 entries": the entry of byte value w and rank r is `selectIn 8 w r`.
+-- 2,048 entries".
 use mathlib.Core.Path.{_≡_}
 use mathlib.Core.Logic.{_⊎_}
 use Prim.Native.Nat.{ℕ, zero, suc, _+_, _*_, _/_, _%_, _^_, _≤_, _<_}
 use mathlib.Core.List.{List, [], _∷_}
 use lib.Count.{onesIn}
-use Rattle.multiset.specs.Digits.{value}
 
 -- one place further on, in a word whose lowest bit is b: rank 0 stands here where b is one
 abbrev pub above : ℕ → ℕ → (ℕ → ℕ) → ℕ
@@ -23,9 +22,13 @@ abbrev pub listed : (ℕ → ℕ) → ℕ → ℕ → List ℕ
 listed f from zero = []
 listed f from (suc n) = f from ∷ listed f (suc from) n
 
--- number k of the table: the eight entries of byte value 2k, then those of 2k + 1, as hex digits, the lowest first
-abbrev pub pairs : ℕ → ℕ
-pairs k = value 16 (listed (λ (i : ℕ). selectIn 8 (2 * k + i / 8) (i % 8)) 0 16)
+-- the rule of the table: the entry of byte value w and rank r
+abbrev pub selectByte : ℕ → ℕ → ℕ
+selectByte w r = selectIn 8 w r
+
+-- the table: the entries of byte value 0, then those of 1, .., each by rank
+unfoldable pub selectTable : List ℕ
+selectTable = listed (λ (i : ℕ). selectByte (i / 8) (i % 8)) 0 2048
 
 -- f of each of the n lowest bytes of w, in that byte
 abbrev pub bytewise : (ℕ → ℕ) → ℕ → ℕ → ℕ

@@ -9,6 +9,7 @@ ghost use lib.ListN.{length, take, drop};
 ghost use lib.Count.{ones};
 ghost use Rattle.multiset.specs.Multisets.{below};
 ghost use Rattle.multiset.specs.Digits.{digits, value};
+ghost use Rattle.words.specs.Select.{selectTable};
 ghost use Rattle.buckets.specs.Words.{openedAt, closedAt, minisOf};
 
 // "Bytes 0 to 7: a little-endian word."
@@ -56,22 +57,22 @@ pub fn occupancy(word: u64) -> usize
 }
 
 // The place of mini-bucket `mini`'s first bit: behind the end of the one before it.
-fn first_place(word: u64, mini: u32) -> u32
-    requires { ⌜ (ones word ≡ 36) × (mini < 36) ⌝ }
+fn first_place(table: &[u8], word: u64, mini: u32) -> u32
+    requires { ⌜ (now table ≡ selectTable) × (ones word ≡ 36) × (mini < 36) ⌝ }
     ensures { λ r. ⌜ r ≡ mini + below mini (minisOf word) ⌝ }
 {
     if mini == 0 {
         return 0;
     }
-    select::select(word, mini - 1) + 1
+    select::select(table, word, mini - 1) + 1
 }
 
 // The slots of mini-bucket `mini`: as many as the zeros from its first bit.
-pub fn bounds(word: u64, mini: u32) -> Bounds
-    requires { ⌜ (ones word ≡ 36) × (mini < 36) ⌝ }
+pub fn bounds(table: &[u8], word: u64, mini: u32) -> Bounds
+    requires { ⌜ (now table ≡ selectTable) × (ones word ≡ 36) × (mini < 36) ⌝ }
     ensures { λ r. ⌜ (r .from ≡ below mini (minisOf word)) × (r .past ≡ below (suc mini) (minisOf word)) ⌝ }
 {
-    let place = first_place(word, mini);
+    let place = first_place(table, word, mini);
     let from = place - mini;
     let past = from + u64::trailing_zeros(word >> place);
     Bounds {

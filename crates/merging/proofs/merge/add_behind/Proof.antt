@@ -17,19 +17,19 @@ use Rattle.merging.proofs.merge.add_behind.Statement.{statement}
 use Rattle.merging.proofs.merge.add_behind.Tie as tie
 
 abbrev start : tie.After-slice-known → tie.Start
-start c = c .before .before
+start c = c .before .before .before
 
 abbrev bytes : (c : tie.After-slice-known) → (i : ℕ) → getD (start c .args .source .now) i 0 < 256
-bytes c i = c .before .shared-slice-known .given i .fits
+bytes c i = c .before .shared-slice-known2 .given i .fits
 
 good : (c : tie.After-slice-known) → Good layout1 (start c .args .size) (start c .args .source .now)
-good c = good-of (start c .args .size) (start c .args .source .now) (bytes c) (start c .pre .0)
+good c = good-of (start c .args .size) (start c .args .source .now) (bytes c) (start c .pre .1)
 
 all : (c : tie.After-slice-known) → AllRead (start c .args .size) (start c .args .source .now)
 all c = read-of (start c .args .size) (start c .args .source .now) (bytes c) (good c)
 
 members : (c : tie.After-slice-known) → MembersRead (start c .args .size) (start c .args .front .0) (start c .args .source .now)
-members c = let s = start c in members-read (s .args .size) (s .args .front .0) (s .args .source .now) (good c) (all c) (s .pre .1 .within .front)
+members c = let s = start c in members-read (s .args .size) (s .args .front .0) (s .args .source .now) (good c) (all c) (s .pre .2 .within .front)
 
 count-front-at-requires : tie.Need-count-front-at-requires
 count-front-at-requires c κs = members c .front
@@ -39,7 +39,7 @@ unfolding pushAll
 returns c =
     let p = c .before .before in
     let s = start p in
-    (rw (behind-few (s .args .size) (s .args .front .0) (s .args .source .now) (members p) (omega (arith, c .before .count-front-at .ensures, c .if1 .taken))), s .pre .1)
+    (rw (behind-few (s .args .size) (s .args .front .0) (s .args .source .now) (members p) (omega (arith, c .before .count-front-at .ensures, c .if1 .taken))), s .pre .2)
 
 slice-aggregate-list-members : tie.Need-slice-aggregate-list-members
 slice-aggregate-list-members c = search needs
@@ -80,7 +80,7 @@ push-all-requires c κs =
     let p = known t in
     let s = start p in
     let m = members-fit (s .args .size) (s .args .front .0) (s .args .source .now) (members p) in
-    (s .pre .1, rw (part t) (below-drop (allKeys layout1) 28 (membersIn (s .args .size) (s .args .front .0) (s .args .source .now)) (m .1)))
+    (s .pre .0, s .pre .2, rw (part t) (below-drop (allKeys layout1) 28 (membersIn (s .args .size) (s .args .front .0) (s .args .source .now)) (m .1)))
 
 same-length : tie.Need-same-length
 same-length c = search needs
@@ -90,7 +90,7 @@ returns-2 c =
     let t = c .before .before .before .before .before .before .before in
     let p = known t in
     let s = start p in
-    let split = members-split (s .args .size) (s .args .front .0) (s .args .source .now) (good p) (all p) (s .pre .1 .within .front) in
+    let split = members-split (s .args .size) (s .args .front .0) (s .args .source .now) (good p) (all p) (s .pre .2 .within .front) in
     let e = c .before .before .push-all .ensures in
     (e .0 ∙ ap (λ (l : List ℕ). pushAll layout1 (s .args .size) (s .args .front .0) l (s .args .target .now)) (part t ∙ split .1), e .1)
 

@@ -27,16 +27,16 @@ in-front-requires : tie.Need-in-front-requires
 in-front-requires c κs = search needs
 
 abbrev start : tie.After-in-front → tie.Start
-start c = c .before .before .before .before
+start c = c .before .before .before .before .before
 
 good : (c : tie.After-in-front) → Good layout1 (start c .args .size) (start c .args .target .now)
-good c = good-of (start c .args .size) (start c .args .target .now) (λ i. c .before .slice-known .given i .fits) (start c .pre .0)
+good c = good-of (start c .args .size) (start c .args .target .now) (λ i. c .before .slice-known .given i .fits) (start c .pre .1)
 
 all : (c : tie.After-in-front) → AllRead (start c .args .size) (start c .args .target .now)
 all c = read-of (start c .args .size) (start c .args .target .now) (λ i. c .before .slice-known .given i .fits) (good c)
 
 sound : (c : tie.After-in-front) → BehindRead (start c .args .size) (start c .args .front .0) (start c .args .target .now)
-sound c = behind-read (start c .args .size) (start c .args .front .0) (start c .args .target .now) (good c) (all c) (start c .pre .1)
+sound c = behind-read (start c .args .size) (start c .args .front .0) (start c .args .target .now) (good c) (all c) (start c .pre .2)
 
 -- the first list's parts in front and behind
 own : (c : tie.After-in-front) → let a : _ = start c .args .a .now in
@@ -46,8 +46,8 @@ own c = first-28 (c .in-front .result) (start c .args .a .now) (c .in-front .ens
 own-list : (c : tie.After-in-front) → FrontList layout1 (take 28 (start c .args .a .now))
 own-list c =
     let s = start c in
-    first-list (s .args .size) (s .args .front .0) (s .pre .1) (s .args .target .now) (good c) (all c .front _ (s .pre .1)) (s .pre .2) (s .args .a .now) (s .args .b .now)
-    (s .pre .3) (s .pre .5) (s .pre .6)
+    first-list (s .args .size) (s .args .front .0) (s .pre .2) (s .args .target .now) (good c) (all c .front _ (s .pre .2)) (s .pre .3) (s .args .a .now) (s .args .b .now)
+    (s .pre .4) (s .pre .6) (s .pre .7)
 
 -- what is left to do once the front bucket is written
 spills : (c : tie.After-in-front) → let s : _ = start c .args in
@@ -56,8 +56,8 @@ spills : (c : tie.After-in-front) → let s : _ = start c .args in
     (pushAll layout1 (s .size) (s .front .0) (goes 28 (s .b .now) (take 28 (s .a .now))))
 spills c =
     let s = start c in
-    joined-spills (s .args .size) (s .args .front .0) (s .pre .1) (s .args .target .now) (good c) (all c .front _ (s .pre .1)) (s .pre .2) (s .args .a .now) (s .args .b .now)
-    (s .pre .3) (s .pre .5) (s .pre .6)
+    joined-spills (s .args .size) (s .args .front .0) (s .pre .2) (s .args .target .now) (good c) (all c .front _ (s .pre .2)) (s .pre .3) (s .args .a .now) (s .args .b .now)
+    (s .pre .4) (s .pre .6) (s .pre .7)
 
 slice-aggregate-fill-both : tie.Need-slice-aggregate-fill-both
 slice-aggregate-fill-both c = sym (length-take-le _ _ (c .before .in-front .ensures .0))
@@ -69,7 +69,7 @@ fill-both-requires : tie.Need-fill-both-requires
 fill-both-requires c κs =
     let p = c .before .before .before in
     let s = start p in
-    (rw (own p .0) (own-list p), s .pre .4, s .pre .6, s .pre .7, refl, front-in (sound p .within))
+    (rw (own p .0) (own-list p), s .pre .5, s .pre .7, s .pre .8, refl, front-in (sound p .within))
 
 abbrev fronted : tie.After-fill-both → tie.After-in-front
 fronted c = c .before .before .before .before
@@ -87,7 +87,7 @@ filled-sound c =
     let p = fronted c in
     let s = start p in
     behind-filled (stays 28 (s .args .b .now) (take 28 (s .args .a .now)))
-    (stays-list layout1 (s .args .b .now) (take 28 (s .args .a .now)) (own-list p) (s .pre .6)) (sound p) (filled c)
+    (stays-list layout1 (s .args .b .now) (take 28 (s .args .a .now)) (own-list p) (s .pre .7)) (sound p) (filled c)
 
 mul-push-all : tie.Need-mul-push-all
 mul-push-all c = search needs
@@ -106,13 +106,13 @@ push-all-requires c κs =
     let d = c .before .before .before .before .before in
     let p = fronted d in
     let s = start p in
-    (filled-sound d, rw (own p .1) (below-drop (allKeys layout1) 28 (s .args .a .now) (s .pre .5)))
+    (s .pre .0, filled-sound d, rw (own p .1) (below-drop (allKeys layout1) 28 (s .args .a .now) (s .pre .6)))
 
 abbrev done : tie.After-push-all → tie.After-fill-both
 done c = c .before .before .before .before .before .before
 
 pushed : (c : tie.After-push-all) → let s : _ = start (fronted (done c)) .args in
-    reached (c .push-all .result) (c .push-all .last .1 .1 .1 .0)
+    reached (c .push-all .result) (c .push-all .last .1 .1 .1 .1 .0)
     ≡ pushAll layout1 (s .size) (s .front .0) (drop 28 (s .a .now)) (putFront layout1 (s .front .0) (stays 28 (s .b .now) (take 28 (s .a .now))) (s .target .now))
 pushed c =
     let s = start (fronted (done c)) .args in
@@ -129,7 +129,7 @@ push-all-requires-2 c κs =
     let t = c .before .before .before .before .before in
     let d = done t in
     let s = start (fronted d) in
-    (t .push-all .ensures .1, rw (gone d) (goes-range layout1 (s .args .b .now) (take 28 (s .args .a .now)) (own-list (fronted d)) (s .pre .6)))
+    (s .pre .0, t .push-all .ensures .1, rw (gone d) (goes-range layout1 (s .args .b .now) (take 28 (s .args .a .now)) (own-list (fronted d)) (s .pre .7)))
 
 same-length : tie.Need-same-length
 same-length c = search needs
@@ -140,7 +140,7 @@ returns c =
     let d = done t in
     let s = start (fronted d) .args in
     rw (gone d) at (c .before .before .push-all2 .ensures .0)
-    ∙ sym (then-on (t .push-all .result) (t .push-all .last .1 .1 .1 .0) (pushAll layout1 (s .size) (s .front .0) (goes 28 (s .b .now) (take 28 (s .a .now)))) (pushed t)
+    ∙ sym (then-on (t .push-all .result) (t .push-all .last .1 .1 .1 .1 .0) (pushAll layout1 (s .size) (s .front .0) (goes 28 (s .b .now) (take 28 (s .a .now)))) (pushed t)
     (c .before .before .before .before .before .if1 .taken))
     ∙ sym (spills (fronted d))
 
@@ -152,7 +152,7 @@ returns-2 c =
     let t = c .before .before .before in
     let d = done t in
     let s = start (fronted d) .args in
-    sym (spills (fronted d) ∙ then-full (t .push-all .result) (t .push-all .last .1 .1 .1 .0)
+    sym (spills (fronted d) ∙ then-full (t .push-all .result) (t .push-all .last .1 .1 .1 .1 .0)
     (pushAll layout1 (s .size) (s .front .0) (goes 28 (s .b .now) (take 28 (s .a .now)))) (pushed t) (c .if1 .left))
 
 pub join-spec : {M : Type 1} → statement M

@@ -11,23 +11,23 @@ use Rattle.merging.proofs.merge.merge_both.Statement.{statement}
 use Rattle.merging.proofs.merge.merge_both.Tie as tie
 
 abbrev start : tie.After-slice-known → tie.Start
-start c = c .before .before .before
+start c = c .before .before .before .before
 
 first-good : (c : tie.After-slice-known) → Good layout1 (start c .args .size) (start c .args .first .now)
-first-good c = good-of (start c .args .size) (start c .args .first .now) (λ i. c .before .before .shared-slice-known .given i .fits) (start c .pre .0)
+first-good c = good-of (start c .args .size) (start c .args .first .now) (λ i. c .before .before .shared-slice-known2 .given i .fits) (start c .pre .1)
 
 first-members : (c : tie.After-slice-known) → MembersRead (start c .args .size) (start c .args .front .0) (start c .args .first .now)
 first-members c =
     let s = start c in
-    members-read (s .args .size) (s .args .front .0) (s .args .first .now) (first-good c) (read-of (s .args .size) (s .args .first .now) (λ i. c .before .before .shared-slice-known .given i .fits) (first-good c)) (s .pre .3)
+    members-read (s .args .size) (s .args .front .0) (s .args .first .now) (first-good c) (read-of (s .args .size) (s .args .first .now) (λ i. c .before .before .shared-slice-known2 .given i .fits) (first-good c)) (s .pre .4)
 
 second-good : (c : tie.After-slice-known) → Good layout1 (start c .args .size) (start c .args .second .now)
-second-good c = good-of (start c .args .size) (start c .args .second .now) (λ i. c .before .shared-slice-known2 .given i .fits) (start c .pre .1)
+second-good c = good-of (start c .args .size) (start c .args .second .now) (λ i. c .before .shared-slice-known3 .given i .fits) (start c .pre .2)
 
 second-members : (c : tie.After-slice-known) → MembersRead (start c .args .size) (start c .args .front .0) (start c .args .second .now)
 second-members c =
     let s = start c in
-    members-read (s .args .size) (s .args .front .0) (s .args .second .now) (second-good c) (read-of (s .args .size) (s .args .second .now) (λ i. c .before .shared-slice-known2 .given i .fits) (second-good c)) (s .pre .3)
+    members-read (s .args .size) (s .args .front .0) (s .args .second .now) (second-good c) (read-of (s .args .size) (s .args .second .now) (λ i. c .before .shared-slice-known3 .given i .fits) (second-good c)) (s .pre .4)
 
 slice-aggregate-list-members : tie.Need-slice-aggregate-list-members
 slice-aggregate-list-members c = search needs
@@ -60,7 +60,7 @@ join-requires c κs =
     let s = start p in
     let x = members-fit (s .args .size) (s .args .front .0) (s .args .first .now) (first-members p) in
     let y = members-fit (s .args .size) (s .args .front .0) (s .args .second .now) (second-members p) in
-    rw (listed-take (l .list-members .ensures), listed-take (c .before .before .before .before .list-members2 .ensures)) (s .pre .2, s .pre .3, s .pre .4, x .0, y .0, x .1, y .1, y .2)
+    rw (listed-take (l .list-members .ensures), listed-take (c .before .before .before .before .list-members2 .ensures)) (s .pre .0, s .pre .3, s .pre .4, s .pre .5, x .0, y .0, x .1, y .1, y .2)
 
 same-length : tie.Need-same-length
 same-length c = search needs

@@ -20,15 +20,23 @@ emptied c =
     c .fresh .ensures .bytes ∙ fresh-sized (s .args .size) (s .args .target .now) (s .pre .2)
 
 abbrev start : tie.After-merge-fronts → tie.Start
-start c = c .before .before .before .before .before .before .before .before .before
+start c = c .before .before .before .before .before .before .before .before .before .before .before
 
 filled : (c : tie.After-merge-fronts) → let a : _ = start c .args in
-    reached (c .merge-fronts .result) (c .merge-fronts .last .1 .1 .1 .0)
+    reached (c .merge-fronts .result) (c .merge-fronts .last .1 .1 .1 .1 .0)
     ≡ mergeFrom layout1 (a .size) (fronts (a .size)) 0 (a .first .now) (a .second .now) (emptyImage layout1 (a .size))
-filled c = rw (emptied (c .before .before .before .before)) at (c .merge-fronts .ensures)
+filled c = rw (emptied (c .before .before .before .before .before .before)) at (c .merge-fronts .ensures)
+
+entries-requires : tie.Need-entries-requires
+entries-requires c κs = search needs
+
+slice-aggregate-merge-fronts : tie.Need-slice-aggregate-merge-fronts
+slice-aggregate-merge-fronts c = search needs
 
 merge-fronts-requires : tie.Need-merge-fronts-requires
-merge-fronts-requires c κs = let s = c .before .before .before .before .before .before .before .before in (s .pre .0, s .pre .1, emptied (c .before .before .before))
+merge-fronts-requires c κs =
+    let s = c .before .before .before .before .before .before .before .before .before .before in
+    (c .before .before .entries .ensures, s .pre .0, s .pre .1, emptied (c .before .before .before .before .before))
 
 same-length : tie.Need-same-length
 same-length c = search needs
@@ -36,13 +44,13 @@ same-length c = search needs
 returns : tie.Need-returns
 returns c =
     let d = c .before .before .before in
-    rw (reached-all (d .merge-fronts .result) (d .merge-fronts .last .1 .1 .1 .0) (filled d) (c .if1 .taken)) record { answer = refl; bytes = refl }
+    rw (reached-all (d .merge-fronts .result) (d .merge-fronts .last .1 .1 .1 .1 .0) (filled d) (c .if1 .taken)) record { answer = refl; bytes = refl }
 
 -- the target has the length that it had
-still : (c : tie.After-merge-fronts) → SizedAs (start c .args .size) (c .merge-fronts .last .1 .1 .1 .0)
+still : (c : tie.After-merge-fronts) → SizedAs (start c .args .size) (c .merge-fronts .last .1 .1 .1 .1 .0)
 still c =
-    let long : length (c .merge-fronts .last .1 .1 .1 .0) ≡ length (start c .args .target .now) =
-    c .merge-fronts .kept .1 .1 .1 .0 ∙ c .before .before .before .before .fresh .kept .0 in
+    let long : length (c .merge-fronts .last .1 .1 .1 .1 .0) ≡ length (start c .args .target .now) =
+    c .merge-fronts .kept .1 .1 .1 .1 .0 ∙ c .before .before .before .before .before .before .fresh .kept .0 in
     rw long (start c .pre .2)
 
 give-up-requires : tie.Need-give-up-requires
@@ -56,7 +64,7 @@ returns-2 c =
     let i = c .before .before .before .before in
     let d = i .before .before .before in
     let s = start d in
-    let t = d .merge-fronts .last .1 .1 .1 .0 in
+    let t = d .merge-fronts .last .1 .1 .1 .1 .0 in
     let e = c .before .before .give-up .ensures in
     rw (reached-full (d .merge-fronts .result) t (filled d) (i .if1 .left)) record {
       answer = e .answer;
@@ -68,6 +76,8 @@ merge-checked-spec =
     tie.close
     (tie.spec
     fresh-requires
+    entries-requires
+    slice-aggregate-merge-fronts
     merge-fronts-requires
     same-length
     returns

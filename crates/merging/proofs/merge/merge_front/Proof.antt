@@ -8,22 +8,22 @@ use Rattle.merging.proofs.merge.merge_front.Statement.{statement}
 use Rattle.merging.proofs.merge.merge_front.Tie as tie
 
 abbrev start : tie.After-slice-known → tie.Start
-start c = c .before .before .before
+start c = c .before .before .before .before
 
 first-good : (c : tie.After-slice-known) → Good layout1 (start c .args .size) (start c .args .first .now)
-first-good c = good-of (start c .args .size) (start c .args .first .now) (λ i. c .before .before .shared-slice-known .given i .fits) (start c .pre .0)
+first-good c = good-of (start c .args .size) (start c .args .first .now) (λ i. c .before .before .shared-slice-known2 .given i .fits) (start c .pre .1)
 
 first-read : (c : tie.After-slice-known) → AllRead (start c .args .size) (start c .args .first .now)
-first-read c = read-of (start c .args .size) (start c .args .first .now) (λ i. c .before .before .shared-slice-known .given i .fits) (first-good c)
+first-read c = read-of (start c .args .size) (start c .args .first .now) (λ i. c .before .before .shared-slice-known2 .given i .fits) (first-good c)
 
 second-good : (c : tie.After-slice-known) → Good layout1 (start c .args .size) (start c .args .second .now)
-second-good c = good-of (start c .args .size) (start c .args .second .now) (λ i. c .before .shared-slice-known2 .given i .fits) (start c .pre .1)
+second-good c = good-of (start c .args .size) (start c .args .second .now) (λ i. c .before .shared-slice-known3 .given i .fits) (start c .pre .2)
 
 second-read : (c : tie.After-slice-known) → AllRead (start c .args .size) (start c .args .second .now)
-second-read c = read-of (start c .args .size) (start c .args .second .now) (λ i. c .before .shared-slice-known2 .given i .fits) (second-good c)
+second-read c = read-of (start c .args .size) (start c .args .second .now) (λ i. c .before .shared-slice-known3 .given i .fits) (second-good c)
 
 count-front-at-requires : tie.Need-count-front-at-requires
-count-front-at-requires c κs = first-read c .front _ (start c .pre .3)
+count-front-at-requires c κs = first-read c .front _ (start c .pre .4)
 
 take-over-requires : tie.Need-take-over-requires
 take-over-requires c κs = search needs
@@ -35,7 +35,7 @@ returns : tie.Need-returns
 returns c = search needs
 
 count-front-at-requires-2 : tie.Need-count-front-at-requires-2
-count-front-at-requires-2 c κs = let p = c .before .before in second-read p .front _ (start p .pre .3)
+count-front-at-requires-2 c κs = let p = c .before .before in second-read p .front _ (start p .pre .4)
 
 take-over-requires-2 : tie.Need-take-over-requires-2
 take-over-requires-2 c κs = search needs

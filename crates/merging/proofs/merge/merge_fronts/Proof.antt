@@ -22,28 +22,28 @@ use Rattle.merging.proofs.merge.merge_fronts.Statement.{statement}
 use Rattle.merging.proofs.merge.merge_fronts.Tie as tie
 
 abbrev Inv-loop : tie.InvT-loop
-Inv-loop first second size target₀ end f₀ target f =
+Inv-loop table first second size target₀ end f₀ target f =
     (f ≤ end) × (length target ≡ length target₀) × Good layout1 size target × Untouched size f target × ((i : ℕ) → getD target i 0 < 256)
     × (mergeFrom layout1 size (fronts size) 0 first second target₀ ≡ mergeFrom layout1 size (fronts size - f) f first second target)
 
 abbrev μ-loop : tie.MeasureT-loop
-μ-loop first second size target₀ end f₀ target f = end - f
+μ-loop table first second size target₀ end f₀ target f = end - f
 
 -- the sources are good, and their buckets were read
 abbrev start : tie.After-slice-known Inv-loop μ-loop → tie.Start Inv-loop μ-loop
-start c = c .before .before .before
+start c = c .before .before .before .before
 
 first-good : (c : tie.After-slice-known Inv-loop μ-loop) → Good layout1 (start c .args .size) (start c .args .first .now)
-first-good c = good-of (start c .args .size) (start c .args .first .now) (λ i. c .before .before .shared-slice-known .given i .fits) (start c .pre .0)
+first-good c = good-of (start c .args .size) (start c .args .first .now) (λ i. c .before .before .shared-slice-known2 .given i .fits) (start c .pre .1)
 
 first-read : (c : tie.After-slice-known Inv-loop μ-loop) → AllRead (start c .args .size) (start c .args .first .now)
-first-read c = read-of (start c .args .size) (start c .args .first .now) (λ i. c .before .before .shared-slice-known .given i .fits) (first-good c)
+first-read c = read-of (start c .args .size) (start c .args .first .now) (λ i. c .before .before .shared-slice-known2 .given i .fits) (first-good c)
 
 second-good : (c : tie.After-slice-known Inv-loop μ-loop) → Good layout1 (start c .args .size) (start c .args .second .now)
-second-good c = good-of (start c .args .size) (start c .args .second .now) (λ i. c .before .shared-slice-known2 .given i .fits) (start c .pre .1)
+second-good c = good-of (start c .args .size) (start c .args .second .now) (λ i. c .before .shared-slice-known3 .given i .fits) (start c .pre .2)
 
 second-read : (c : tie.After-slice-known Inv-loop μ-loop) → AllRead (start c .args .size) (start c .args .second .now)
-second-read c = read-of (start c .args .size) (start c .args .second .now) (λ i. c .before .shared-slice-known2 .given i .fits) (second-good c)
+second-read c = read-of (start c .args .size) (start c .args .second .now) (λ i. c .before .shared-slice-known3 .given i .fits) (second-good c)
 
 -- f is the number of a front bucket, whose members can be read
 inside : (c : tie.In-loop Inv-loop μ-loop) → c .before .loop .f < fronts (start (c .before .before) .args .size)
@@ -68,16 +68,16 @@ on c =
     (members-at (a .size) (l .f) (a .first .now) (first-members c)) (members-at (a .size) (l .f) (a .second .now) (second-members c))
 
 mul-end : tie.Need-mul-end Inv-loop μ-loop
-mul-end c = let s = c .before .before .before in omega (arith, sizeOf-some (length (s .args .first .now)) (s .args .size) (s .pre .0 .size) .2)
+mul-end c = let s = c .before .before .before .before in omega (arith, sizeOf-some (length (s .args .first .now)) (s .args .size) (s .pre .1 .size) .2)
 
 loop-holds : tie.Need-loop-holds Inv-loop μ-loop
 loop-holds c =
-    let s = c .before .before .before in
-    let g = sizeOf-some (length (s .args .first .now)) (s .args .size) (s .pre .0 .size) in (
+    let s = c .before .before .before .before in
+    let g = sizeOf-some (length (s .args .first .now)) (s .args .size) (s .pre .1 .size) in (
       omega arith,
       refl,
-      rw (s .pre .2) (empty-good layout1 fits1 (s .args .size) (g .1) (g .2)),
-      (λ e y l k. rw (s .pre .2) (empty-total layout1 fits1 (s .args .size) e y k)),
+      rw (s .pre .3) (empty-good layout1 fits1 (s .args .size) (g .1) (g .2)),
+      (λ e y l k. rw (s .pre .3) (empty-total layout1 fits1 (s .args .size) e y k)),
       (λ i. c .slice-known .given i .fits),
       rw sub-zero,
     )
@@ -89,13 +89,14 @@ merge-front-requires c κs =
     let s = start (i .before .before) in (
       s .pre .0,
       s .pre .1,
+      s .pre .2,
       checked-of (l .inv .2),
       inside i,
       untouched-front (s .args .size) (l .f) (l .target) (l .inv .2) (read-of (s .args .size) (l .target) (l .inv .4) (l .inv .2)) (inside i) (l .inv .3),
     )
 
 same-length : tie.Need-same-length Inv-loop μ-loop
-same-length c = c .before .before .before .merge-front .kept .1 .1 .1 .1 .0 ∙ c .before .before .before .before .before .before .loop .inv .1
+same-length c = c .before .before .before .merge-front .kept .1 .1 .1 .1 .1 .0 ∙ c .before .before .before .before .before .before .loop .inv .1
 
 returns : tie.Need-returns Inv-loop μ-loop
 returns c =
@@ -103,11 +104,11 @@ returns c =
     let i = d .before .before in
     let l = i .before .loop in
     let a = start (i .before .before) .args in
-    sym (l .inv .5 ∙ on i ∙ then-full (d .merge-front .result) (d .merge-front .last .1 .1 .1 .1 .0)
+    sym (l .inv .5 ∙ on i ∙ then-full (d .merge-front .result) (d .merge-front .last .1 .1 .1 .1 .1 .0)
     (mergeFrom layout1 (a .size) (fronts (a .size) - (l .f + 1)) (l .f + 1) (a .first .now) (a .second .now)) (d .merge-front .ensures) (not-true _ (c .if1 .taken)))
 
 add-f : tie.Need-add-f Inv-loop μ-loop
-add-f c = let s = c .before .before .before .before .before .before .before .before .before .before in omega (arith, sizeOf-some (length (s .args .first .now)) (s .args .size) (s .pre .0 .size) .2)
+add-f c = let s = c .before .before .before .before .before .before .before .before .before .before .before in omega (arith, sizeOf-some (length (s .args .first .now)) (s .args .size) (s .pre .1 .size) .2)
 
 loop-less : tie.Need-loop-less Inv-loop μ-loop
 loop-less c = omega arith
@@ -122,13 +123,13 @@ loop-again c =
     let g =
     both-good (a .size) (l .f) (a .first .now) (a .second .now) (l .target) (inside i)
     (members-range (a .size) (l .f) (a .first .now) (first-members i)) (members-range (a .size) (l .f) (a .second .now) (second-members i))
-    (l .inv .2) (l .inv .3) (reached-all (d .merge-front .result) (d .merge-front .last .1 .1 .1 .1 .0) (d .merge-front .ensures) e) in (
+    (l .inv .2) (l .inv .3) (reached-all (d .merge-front .result) (d .merge-front .last .1 .1 .1 .1 .1 .0) (d .merge-front .ensures) e) in (
       omega arith,
-      d .merge-front .kept .1 .1 .1 .1 .0 ∙ l .inv .1,
+      d .merge-front .kept .1 .1 .1 .1 .1 .0 ∙ l .inv .1,
       g .0,
       g .1,
       (λ i. c .before .slice-known2 .given i .fits),
-      l .inv .5 ∙ on i ∙ then-on (d .merge-front .result) (d .merge-front .last .1 .1 .1 .1 .0)
+      l .inv .5 ∙ on i ∙ then-on (d .merge-front .result) (d .merge-front .last .1 .1 .1 .1 .1 .0)
           (mergeFrom layout1 (a .size) (fronts (a .size) - (l .f + 1)) (l .f + 1) (a .first .now) (a .second .now)) (d .merge-front .ensures) e,
     )
 

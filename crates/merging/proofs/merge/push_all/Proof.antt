@@ -17,13 +17,13 @@ use Rattle.merging.proofs.merge.push_all.Statement.{statement}
 use Rattle.merging.proofs.merge.push_all.Tie as tie
 
 abbrev Inv-loop : tie.InvT-loop
-Inv-loop keys size front target₀ i₀ target i = (i ≤ length keys) × (length target ≡ length target₀) × BehindRead size (front .0) target × (pushAll layout1 size (front .0) keys target₀ ≡ pushAll layout1 size (front .0) (drop i keys) target)
+Inv-loop table keys size front target₀ i₀ target i = (i ≤ length keys) × (length target ≡ length target₀) × BehindRead size (front .0) target × (pushAll layout1 size (front .0) keys target₀ ≡ pushAll layout1 size (front .0) (drop i keys) target)
 
 abbrev μ-loop : tie.MeasureT-loop
-μ-loop keys size front target₀ i₀ target i = length keys - i
+μ-loop table keys size front target₀ i₀ target i = length keys - i
 
 loop-holds : tie.Need-loop-holds Inv-loop μ-loop
-loop-holds c = (omega arith, refl, c .before .before .pre .0, refl)
+loop-holds c = (omega arith, refl, c .before .before .before .pre .1, refl)
 
 mul-push : tie.Need-mul-push Inv-loop μ-loop
 mul-push c = search needs
@@ -33,21 +33,21 @@ shared-slice-read-push c = omega arith
 
 push-requires : tie.Need-push-requires Inv-loop μ-loop
 push-requires c κs =
-    let s = c .before .before .before .before .before .before in
+    let s = c .before .before .before .before .before .before .before in
     let l = c .before .before .before .loop in
-    (l .inv .2, below-at (allKeys layout1) (s .args .keys .now) (l .i) (s .pre .1) (omega arith))
+    (s .pre .0, l .inv .2, below-at (allKeys layout1) (s .args .keys .now) (l .i) (s .pre .2) (omega arith))
 
 same-length : tie.Need-same-length Inv-loop μ-loop
 same-length c = search needs
 
 -- the key at i comes next
-next : (c : tie.After-push Inv-loop μ-loop) → let s : _ = c .before .before .before .before .before .before .before in
+next : (c : tie.After-push Inv-loop μ-loop) → let s : _ = c .before .before .before .before .before .before .before .before in
     let l : _ = c .before .before .before .before .loop in
     pushAll layout1 (s .args .size) (s .args .front .0) (s .args .keys .now) (s .args .target .now)
     ≡ andThen (pushAt layout1 (s .args .size) (s .args .front .0) (getD (s .args .keys .now) (l .i) 0) (l .target))
     (pushAll layout1 (s .args .size) (s .args .front .0) (drop (l .i + 1) (s .args .keys .now)))
 next c =
-    let s = c .before .before .before .before .before .before .before in
+    let s = c .before .before .before .before .before .before .before .before in
     let l = c .before .before .before .before .loop in
     l .inv .3 ∙ pushes-next layout1 (s .args .size) (s .args .front .0) (l .i) (s .args .keys .now) (l .target) (omega arith)
 
@@ -55,7 +55,7 @@ returns : tie.Need-returns Inv-loop μ-loop
 returns c =
     let p = c .before .before .before in
     let e = p .push .ensures in
-    (sym (next p ∙ then-full (p .push .result) (p .push .last .0) _ (e .0) (not-true _ (c .if1 .taken))), e .1)
+    (sym (next p ∙ then-full (p .push .result) (p .push .last .1 .0) _ (e .0) (not-true _ (c .if1 .taken))), e .1)
 
 add-i : tie.Need-add-i Inv-loop μ-loop
 add-i c = omega arith
@@ -67,19 +67,19 @@ loop-again : tie.Need-loop-again Inv-loop μ-loop
 loop-again c =
     let p = c .before .before .before in
     let e = p .push .ensures in
-    (omega arith, p .push .kept .0 ∙ p .before .before .before .before .loop .inv .1, e .1, next p ∙ then-on (p .push .result) (p .push .last .0) _ (e .0) (not-false _ (c .if1 .left)))
+    (omega arith, p .push .kept .1 .0 ∙ p .before .before .before .before .loop .inv .1, e .1, next p ∙ then-on (p .push .result) (p .push .last .1 .0) _ (e .0) (not-false _ (c .if1 .left)))
 
 same-length-2 : tie.Need-same-length-2 Inv-loop μ-loop
 same-length-2 c = search needs
 
 -- all keys are behind
-done : (c : tie.After-loop Inv-loop μ-loop) → c .before .loop .i ≡ length (c .before .before .before .before .args .keys .now)
+done : (c : tie.After-loop Inv-loop μ-loop) → c .before .loop .i ≡ length (c .before .before .before .before .before .args .keys .now)
 done c = omega arith
 
 returns-2 : tie.Need-returns-2 Inv-loop μ-loop
 unfolding pushAll
 returns-2 c =
-    let s = c .before .before .before .before in
+    let s = c .before .before .before .before .before in
     let l = c .before .loop in
     (sym (l .inv .3 ∙ rw (done c, drop-length (s .args .keys .now))), l .inv .2)
 

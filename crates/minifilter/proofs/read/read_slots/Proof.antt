@@ -19,7 +19,8 @@ returns c =
     let s = c .before .before .before in
     let a = s .args in
     let w = c .before .word-of in
-    sym (reading-unlike (a .sought) (w .result) (a .crumbs) (a .slots) (s .pre .1) (s .pre .2) (a .b .now) (s .pre .0) (w .ensures) (c .if1 .taken))
+    sym (reading-unlike (a .sought) (w .result) (a .crumbs) (a .slots) (s .pre .1) (s .pre .2) (a .b .now) (s .pre .0) (w .ensures)
+    (λ e. omega (arith, e, c .if1 .taken)))
 
 occupancy-requires : tie.Need-occupancy-requires
 occupancy-requires c κs = search needs

@@ -1,54 +1,37 @@
--- `words::select::at_rank` meets its contract: the table is the list that the rule of its entries gives (`row`), read at one entry.
+-- `words::select::at_rank` meets its contract: the table that is lent has the entry of the byte value and the rank at that place.
+use mathlib.Core.Path.{_≡_, ap, _∙_}
+use Prim.Native.Nat.{ℕ, _+_, _*_}
+use mathlib.Core.List.{List}
+use native.Mathlib.Omega.{arith}
 use borrow.Author.Needs.{needs}
-use Rattle.words.proofs.SelectLaws.{listed-entry}
+use lib.ListN.{length, getD}
+use Rattle.words.specs.Select.{selectByte}
+use Rattle.words.proofs.SelectLaws.{length-table, listed-entry}
 use Rattle.words.proofs.select.at_rank.Statement.{statement}
 use Rattle.words.proofs.select.at_rank.Tie as tie
 
-row-requires : tie.Need-row-requires
-row-requires c κs = search needs
+abbrev place : tie.After-shared-slice-known → ℕ
+place c = let a = c .before .args in 8 * a .byte + a .rank
 
-cast-two : tie.Need-cast-two
-cast-two c = search needs
+entry : (c : tie.After-shared-slice-known) → let a = c .before .args in getD (a .table .now) (place c) 0 ≡ selectByte (a .byte) (a .rank)
+entry c =
+    let s = c .before in
+    ap (λ (t : List ℕ). getD t (place c) 0) (s .pre .0) ∙ listed-entry (s .args .byte) (s .args .rank) (s .fits .byte .fits) (s .pre .1)
 
-mul-two : tie.Need-mul-two
-mul-two c = search needs
+mul-at : tie.Need-mul-at
+mul-at c = search needs
 
-array-read-two : tie.Need-array-read-two
-array-read-two c = search needs
+add-at : tie.Need-add-at
+add-at c = search needs
 
-mul-result : tie.Need-mul-result
-mul-result c = search needs
-
-add-result : tie.Need-add-result
-add-result c = search needs
-
-mul-result-2 : tie.Need-mul-result-2
-mul-result-2 c = search needs
+shared-slice-read-result : tie.Need-shared-slice-read-result
+shared-slice-read-result c = let s = c .before in omega (arith, s .fits .byte .fits, s .pre .1, ap length (s .pre .0), length-table)
 
 cast-result : tie.Need-cast-result
-cast-result c = search needs
-
-shr-result : tie.Need-shr-result
-shr-result c = search needs
-
-cast-result-2 : tie.Need-cast-result-2
-cast-result-2 c = search needs
+cast-result c = omega (arith, c .shared-slice-known .given (place c))
 
 returns : tie.Need-returns
-returns c = let a = c .before .args in rw (c .row .ensures) (listed-entry (a .byte) (a .rank) (c .before .pre))
+returns c = entry c
 
 pub at-rank-spec : {M : Type 1} → statement M
-at-rank-spec =
-    tie.close
-    (tie.spec
-    row-requires
-    cast-two
-    mul-two
-    array-read-two
-    mul-result
-    add-result
-    mul-result-2
-    cast-result
-    shr-result
-    cast-result-2
-    returns)
+at-rank-spec = tie.close (tie.spec mul-at add-at shared-slice-read-result cast-result returns)

@@ -11,42 +11,42 @@ use Rattle.words.proofs.TallyLaws.{Near, near-all, near-step, sums-at, 
 use Rattle.words.proofs.select.select.Statement.{statement}
 use Rattle.words.proofs.select.select.Tie as tie
 
-near1 : (c : tie.After-step) → let a = c .before .before .args in Near (a .word) (a .rank) (c .step .result) 32
+near1 : (c : tie.After-step) → let a = c .before .before .before .args in Near (a .word) (a .rank) (c .step .result) 32
 near1 c =
-    let a = c .before .before .args in
+    let a = c .before .before .before .args in
     near-step (a .word) (c .before .sums .result) (a .rank) 0 32 (c .step .result) (c .before .sums .ensures) refl (lit< tt)
     (near-all (a .word) (a .rank)) (c .step .ensures)
 
-near2 : (c : tie.After-step2) → let a = c .before .before .before .args in Near (a .word) (a .rank) (c .step2 .result) 16
+near2 : (c : tie.After-step2) → let a = c .before .before .before .before .args in Near (a .word) (a .rank) (c .step2 .result) 16
 near2 c =
     let s = c .before .before in
-    let a = s .before .args in
+    let a = s .before .before .args in
     near-step (a .word) (s .sums .result) (a .rank) (c .before .step .result) 16 (c .step2 .result) (s .sums .ensures) refl (lit< tt)
     (near1 (c .before)) (c .step2 .ensures)
 
-near3 : (c : tie.After-step3) → let a = c .before .before .before .before .args in Near (a .word) (a .rank) (c .step3 .result) 8
+near3 : (c : tie.After-step3) → let a = c .before .before .before .before .before .args in Near (a .word) (a .rank) (c .step3 .result) 8
 near3 c =
     let s = c .before .before .before in
-    let a = s .before .args in
+    let a = s .before .before .args in
     near-step (a .word) (s .sums .result) (a .rank) (c .before .step2 .result) 8 (c .step3 .result) (s .sums .ensures) refl (lit< tt)
     (near2 (c .before)) (c .step3 .ensures)
 
 -- the ones passed by
 passed : (c : tie.After-step3) → let s = c .before .before .before in
-    s .sums .result / 2 ^ c .step3 .result % 256 ≡ onesIn (c .step3 .result) (s .before .args .word)
+    s .sums .result / 2 ^ c .step3 .result % 256 ≡ onesIn (c .step3 .result) (s .before .before .args .word)
 passed c =
     let s = c .before .before .before in
-    sums-at (s .before .args .word) (s .sums .result) (c .step3 .result) (s .sums .ensures) (near3 c .whole) (omega (arith, near3 c .room))
+    sums-at (s .before .before .args .word) (s .sums .result) (c .step3 .result) (s .sums .ensures) (near3 c .whole) (omega (arith, near3 c .room))
 
 -- the byte found, and the rank in it
 abbrev byte : (c : tie.After-step3) → ℕ
-byte c = c .before .before .before .before .args .word / 2 ^ c .step3 .result % 256
+byte c = c .before .before .before .before .before .args .word / 2 ^ c .step3 .result % 256
 
 abbrev left : (c : tie.After-step3) → ℕ
-left c = let a = c .before .before .before .before .args in a .rank - onesIn (c .step3 .result) (a .word)
+left c = let a = c .before .before .before .before .before .args in a .rank - onesIn (c .step3 .result) (a .word)
 
 found : (c : tie.After-at-rank) → c .at-rank .result ≡ selectIn 8 (byte (c .before .before)) (left (c .before .before))
-found c = let at = c .before .before in rw (passed at) at (c .at-rank .ensures)
+found c = let at = c .before .before in omega (arith, rw (passed at) at (c .at-rank .ensures))
 
 sums-requires : tie.Need-sums-requires
 sums-requires c κs = search needs
@@ -75,7 +75,7 @@ sub-left c = rw (passed c) (near3 c .passed)
 returns : tie.Need-returns
 returns c =
     let at = c .before in
-    let a = at .before .before .before .before .args in
+    let a = at .before .before .before .before .before .args in
     sym (select-none (a .word) (a .rank) (at .step3 .result) (near3 at) (rw (passed at) at (c .if1 .taken)))
 
 cast-at-rank : tie.Need-cast-at-rank
@@ -96,7 +96,7 @@ add-result c = omega (arith, found c, select-le 8 (byte (c .before .before)) (le
 returns-2 : tie.Need-returns-2
 returns-2 c =
     let at = c .before .before in
-    let a = at .before .before .before .before .args in
+    let a = at .before .before .before .before .before .args in
     ap (λ (x : ℕ). at .step3 .result + x) (found c) ∙ sym (select-near (a .word) (a .rank) (at .step3 .result) (near3 at))
 
 pub select-spec : {M : Type 1} → statement M

@@ -13,16 +13,16 @@ use Rattle.words.proofs.word.bounds.Tie as tie
 
 -- the mini-bucket's first slot
 abbrev from : (c : tie.After-first-place) → ℕ
-from c = below (c .before .args .mini) (minisOf (c .before .args .word))
+from c = below (c .before .before .args .mini) (minisOf (c .before .before .args .word))
 
-from-le : (c : tie.After-first-place) → from c ≤ below (suc (c .before .args .mini)) (minisOf (c .before .args .word))
-from-le c = let a = c .before .args in omega (arith, below-suc (a .mini) (minisOf (a .word)))
+from-le : (c : tie.After-first-place) → from c ≤ below (suc (c .before .before .args .mini)) (minisOf (c .before .before .args .word))
+from-le c = let a = c .before .before .args in omega (arith, below-suc (a .mini) (minisOf (a .word)))
 
 -- the first bit is one of the 64
 place-lt : (c : tie.After-first-place) → c .first-place .result < 64
 place-lt c =
-    let s = c .before in
-    omega (arith, place-minisOf (s .args .word) (s .args .mini) (s .fits .word .fits) (s .pre .0) (s .pre .1) (from c) (from-le c))
+    let s = c .before .before in
+    omega (arith, place-minisOf (s .args .word) (s .args .mini) (s .fits .word .fits) (s .pre .1) (s .pre .2) (from c) (from-le c))
 
 first-place-requires : tie.Need-first-place-requires
 first-place-requires c κs = search needs
@@ -37,22 +37,22 @@ shr-past : tie.Need-shr-past
 shr-past c = place-lt c
 
 add-past : tie.Need-add-past
-add-past c = omega (arith, place-lt c, trailing-le 64 (c .before .args .word / 2 ^ (c .first-place .result)))
-
-cast-t9 : tie.Need-cast-t9
-cast-t9 c = search needs
+add-past c = omega (arith, place-lt c, trailing-le 64 (c .before .before .args .word / 2 ^ (c .first-place .result)))
 
 cast-t10 : tie.Need-cast-t10
-cast-t10 c = omega (arith, place-lt c, trailing-le 64 (c .before .args .word / 2 ^ (c .first-place .result)))
+cast-t10 c = search needs
+
+cast-t11 : tie.Need-cast-t11
+cast-t11 c = omega (arith, place-lt c, trailing-le 64 (c .before .before .args .word / 2 ^ (c .first-place .result)))
 
 returns : tie.Need-returns
 returns c =
-    let s = c .before in
+    let s = c .before .before in
     let at : c .first-place .result - s .args .mini ≡ from c = omega arith in (
       at,
       rw (at, c .first-place .ensures)
-          (rest-minisOf (s .args .word) (s .args .mini) (s .fits .word .fits) (s .pre .0) (s .pre .1) (from c) (omega arith) (from-le c)),
+          (rest-minisOf (s .args .word) (s .args .mini) (s .fits .word .fits) (s .pre .1) (s .pre .2) (from c) (omega arith) (from-le c)),
     )
 
 pub bounds-spec : {M : Type 1} → statement M
-bounds-spec = tie.close (tie.spec first-place-requires sub-from cast-past shr-past add-past cast-t9 cast-t10 returns)
+bounds-spec = tie.close (tie.spec first-place-requires sub-from cast-past shr-past add-past cast-t10 cast-t11 returns)
