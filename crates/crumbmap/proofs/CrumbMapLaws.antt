@@ -9,11 +9,13 @@ use lib.Dec.{ltb}
 use borrow.Author.Tests.{lt-ltb, le-ltb, ltb-true, ltb-false}
 use Rattle.crumbmap.specs.Layouts.{fronts, backyards}
 use Rattle.crumbmap.specs.CrumbMap.{stride, firstBucket, firstCrumb, secondBucket, secondCrumb, bucketOf, crumbOf, firstHome, secondHome, home}
+use Rattle.crumbmap.specs.Places.{homeIn}
+use Rattle.crumbmap.specs.declared.Homes.{Homes}
 
 pub bucketOf-lt : (t : Bool) (B f : ℕ) → f < fronts B → bucketOf t B f < backyards B
 unfolding firstBucket firstCrumb secondBucket stride fronts backyards
 bucketOf-lt true B f h = omega arith
-bucketOf-lt false B f h = let d : f % 8 ≤ 7 = omega arith in omega (arith, mul-le-mul-right (B / 8 + 1) d)
+bucketOf-lt false B f h = let d : f % 8 ≤ 7 = omega arith in omega (arith, mul-le-mul-right (stride B) d)
 
 pub crumbOf-lt : (t : Bool) (f : ℕ) → crumbOf t f < 16
 unfolding firstBucket firstCrumb secondCrumb
@@ -38,7 +40,7 @@ home-bucketOf true B f h =
     let e : 8 * (f / 8) + f % 8 ≡ f = omega arith in
     rw (lt-ltb _ _ d, lt-ltb _ _ b, e)
 home-bucketOf false B f h =
-    let K : ℕ = B / 8 + 1 in
+    let K : ℕ = stride B in
     let t : ℕ = f / 8 / 8 in
     let small : t < K = omega arith in
     let c : 8 ≤ 8 + f / 8 % 8 = omega arith in
@@ -83,6 +85,10 @@ home-lt B j c f l e = go (home-valid B j c f e)
     go : Valid B j c f → f < 8 * B
     go (by-first h b s) = omega arith
     go (by-second h b d s) = omega arith
+
+-- a valid digit's front bucket is in range
+pub homeIn-lt : (B j c : ℕ) (r : Homes) (d : ℕ) → c < 16 → home B j c ≡ homeIn r d → d < r .digits → r .start + r .step * d < fronts B
+homeIn-lt B j c r d l e h = home-lt B j c (r .start + r .step * d) l (e ∙ rw (lt-ltb _ _ h))
 
 -- map of back, where valid, is the bucket and the crumb
 pub bucketOf-home : (B j c f : ℕ) → c < 16 → home B j c ≡ some f → (bucketOf (ltb c 8) B f ≡ j) × (crumbOf (ltb c 8) f ≡ c)

@@ -1,5 +1,5 @@
 -- Bits that mark which digits have a home: the lowest k of them, and the marks of both choices side by side.
--- Main results: `ones-in`, `marks-lowest`, `marks-home`.
+-- Main results: `ones-in`, `marks-back`, `marks-home`.
 use mathlib.Core.Path.{_≡_, refl, sym, _∙_, ap}
 use Prim.Native.Nat.{ℕ, suc, _+_, _*_, _-_, _/_, _%_, _^_, _≤_, _<_}
 use native.Mathlib.Nat.{div-eq-of-lt, pow-suc, one-mul, lt-of-lt-of-le}
@@ -10,7 +10,9 @@ use lib.Dec.{ltb, lit<}
 use lib.Pow.{pow-pos, pow-mono, ones-lt, ones-split, high, low, field, mod-mod-pow, shr-shr, shl-exact}
 use borrow.Author.Tests.{ltb-true, ltb-false}
 use Rattle.crumbmap.specs.CrumbMap.{home, firstHome, secondHome}
+use Rattle.crumbmap.specs.Places.{LeadsBack}
 use Rattle.crumbmap.specs.Marks.{Marks, bitOf}
+use Rattle.crumbmap.specs.declared.Homes.{Homes}
 
 odd-ones : (j : ℕ) → (2 ^ suc j - 1) % 2 ≡ 1
 odd-ones j = rw (pow-suc 2 j) (omega (arith, pow-pos j))
@@ -25,21 +27,17 @@ ones-in k d h =
 ones-out : (k d : ℕ) → k ≤ d → (2 ^ k - 1) / 2 ^ d % 2 ≡ 0
 ones-out k d h = rw (div-eq-of-lt (lt-of-lt-of-le (ones-lt k) (pow-mono h)))
 
-pub bit-cond : (p : Bool) (f : ℕ) → bitOf (cond p (some f) none) ≡ cond p 1 0
-bit-cond true f = refl
-bit-cond false f = refl
-
 pub one-shl : (k : ℕ) → k < 32 → (1 * 2 ^ k) % 2 ^ 32 ≡ 2 ^ k
 one-shl k h = shl-exact 1 k 32 (lit< tt) (omega arith) ∙ one-mul (2 ^ k)
 
--- the lowest k digits have a home, no other has
-pub marks-lowest : (n k : ℕ) (f : ℕ → Option ℕ) → k ≤ n → ((d : ℕ) → d < n → bitOf (f d) ≡ cond (ltb d k) 1 0) → Marks n f (2 ^ k - 1)
-marks-lowest n k f h e =
-    record { small = lt-of-lt-of-le (ones-lt k) (pow-mono h); bits = λ d l. go d (ltb d k) refl ∙ sym (e d l) }
+-- the digits of one choice: the lowest so many are valid
+pub marks-back : {homes : ℕ → Option ℕ} {r : Homes} → LeadsBack homes r → Marks 8 homes (2 ^ r .digits - 1)
+marks-back {homes = homes} {r = r} b =
+    record { small = lt-of-lt-of-le (ones-lt (r .digits)) (pow-mono (b .few)); bits = λ d l. rw (b .leads d l) (go d (ltb d (r .digits)) refl) }
   where
-    go : (d : ℕ) (p : Bool) → ltb d k ≡ p → (2 ^ k - 1) / 2 ^ d % 2 ≡ cond p 1 0
-    go d true t = ones-in k d (ltb-true d k t)
-    go d false t = ones-out k d (ltb-false d k t)
+    go : (d : ℕ) (p : Bool) → ltb d (r .digits) ≡ p → (2 ^ r .digits - 1) / 2 ^ d % 2 ≡ bitOf (cond p (some (r .start + r .step * d)) none)
+    go d true t = ones-in (r .digits) d (ltb-true d (r .digits) t)
+    go d false t = ones-out (r .digits) d (ltb-false d (r .digits) t)
 
 -- a bit of two bytes is a bit of the one or the other
 module _ (hi lo c : ℕ) (small : lo < 2 ^ 8) where

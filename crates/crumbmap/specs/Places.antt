@@ -1,11 +1,13 @@
 -- The map as the code's answers give it.
 use mathlib.Core.Path.{_≡_}
-use Prim.Native.Nat.{ℕ, _<_}
-use mathlib.Core.Bool.{Bool}
+use Prim.Native.Nat.{ℕ, _+_, _*_, _<_, _≤_}
+use mathlib.Core.Bool.{Bool, cond}
 use mathlib.Core.Option.{Option, none, some}
+use lib.Dec.{ltb}
 use Rattle.crumbmap.specs.Layouts.{backyards}
 use Rattle.crumbmap.specs.CrumbMap.{bucketOf, crumbOf}
 use Rattle.crumbmap.specs.declared.Overflow.{Overflow}
+use Rattle.crumbmap.specs.declared.Homes.{Homes}
 use Rattle.crumbmap.specs.declared.Home.{Home}
 use Rattle.crumbmap.specs.declared.Home.the-variants.{At, Invalid}
 
@@ -20,3 +22,12 @@ pub record Leads (t : Bool) (B f : ℕ) (r : Overflow) : Type 0 where
 abbrev pub homeOf : Option ℕ → Home
 homeOf none = Invalid
 homeOf (some f) = At (record { 0 = f })
+
+-- the front bucket of digit d, none where d is not valid
+abbrev pub homeIn : Homes → ℕ → Option ℕ
+homeIn r d = cond (ltb d (r .digits)) (some (r .start + r .step * d)) none
+
+-- the way back by one choice, for the digits 0 to 7
+pub record LeadsBack (homes : ℕ → Option ℕ) (r : Homes) : Type 0 where
+  pub few : r .digits ≤ 8
+  pub leads : (d : ℕ) → d < 8 → homes d ≡ homeIn r d

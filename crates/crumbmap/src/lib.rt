@@ -22,3 +22,11 @@ pub enum Home {
     At(Front),
     Invalid,
 }
+
+// The way back from a backyard bucket by one choice: of the digits 0 to 7 the lowest `digits` are valid,
+// and digit d leads to front bucket `start` + `step` × d.
+pub struct Homes {
+    pub digits: usize,
+    pub start: usize,
+    pub step: usize,
+}

@@ -3,13 +3,15 @@
 use crate::Backyard;
 use crate::Front;
 use crate::Home;
+use crate::Homes;
 use crate::Overflow;
 ghost use mathlib.Core.Path.{_≡_};
-ghost use mathlib.Core.Bool.{true, false};
-ghost use Prim.Native.Nat.{_<_, _≤_};
+ghost use mathlib.Core.Bool.{true, false, _&&_};
+ghost use Prim.Native.Nat.{ℕ, _+_, _*_, _<_, _≤_};
+ghost use lib.Dec.{ltb};
 ghost use Rattle.crumbmap.specs.Layouts.{fronts, backyards};
 ghost use Rattle.crumbmap.specs.CrumbMap.{stride, home, firstHome, secondHome};
-ghost use Rattle.crumbmap.specs.Places.{Leads, homeOf};
+ghost use Rattle.crumbmap.specs.Places.{Leads, LeadsBack, homeIn, homeOf};
 
 // Choice 0: "b0 = floor(f / 8), d0 = f mod 8".
 pub fn first_of(front: Front, size: usize) -> Overflow
@@ -50,40 +52,63 @@ pub fn home_of(size: usize, from: Backyard, crumb: u32) -> Home
     requires { ⌜ (size ≤ 65536) × (from .0 < backyards size) × (crumb < 16) ⌝ }
     ensures { λ r. ⌜ r ≡ homeOf (home size (from .0) crumb) ⌝ }
 {
-    let j = from.0;
     let choice = crumb / 8;
     let digit = crumb % 8;
     if choice == 0 {
-        return first_home(size, j, digit as usize);
+        return home_at(first_homes(size, from), digit as usize);
     }
-    second_home(size, j, digit as usize)
+    home_at(second_homes(size, from), digit as usize)
 }
 
-// "Choice 0, digit d gives f = 8j + d, valid if j < B."
-fn first_home(size: usize, j: usize, digit: usize) -> Home
-    requires { ⌜ (size ≤ 65536) × (digit < 8) ⌝ }
-    ensures { λ r. ⌜ r ≡ homeOf (firstHome size j digit) ⌝ }
+// The front bucket that a digit leads to.
+fn home_at(homes: Homes, digit: usize) -> Home
+    requires { ⌜ (digit < homes .digits → homes .start + homes .step * digit < fronts 65536) ⌝ }
+    ensures { λ r. ⌜ r ≡ homeOf (homeIn homes digit) ⌝ }
 {
-    if j < size {
-        Home::At(Front(8 * j + digit))
+    if digit < homes.digits {
+        Home::At(Front(homes.start + homes.step * digit))
     } else {
         Home::Invalid
     }
 }
 
-// "Choice 1, digit d: e = floor(j / K), t = j mod K, f = 64t + 8d + e, valid if e < 8 and 8t + d < B."
-fn second_home(size: usize, j: usize, digit: usize) -> Home
-    requires { ⌜ (size ≤ 65536) × (digit < 8) ⌝ }
-    ensures { λ r. ⌜ r ≡ homeOf (secondHome size j digit) ⌝ }
+// "Choice 0, digit d gives f = 8j + d, valid if j < B", whatever the digit.
+pub fn first_homes(size: usize, from: Backyard) -> Homes
+    requires { ⌜ (size ≤ 65536) × (from .0 < backyards size) ⌝ }
+    ensures { λ r. ⌜ LeadsBack (firstHome size (from .0)) r ⌝ }
 {
+    let j = from.0;
+    Homes {
+        digits: if j < size { 8 } else { 0 },
+        start: 8 * j,
+        step: 1,
+    }
+}
+
+// "Choice 1, digit d: e = floor(j / K), t = j mod K, f = 64t + 8d + e".
+pub fn second_homes(size: usize, from: Backyard) -> Homes
+    requires { ⌜ (size ≤ 65536) × (from .0 < backyards size) ⌝ }
+    ensures { λ r. ⌜ LeadsBack (secondHome size (from .0)) r ⌝ }
+{
+    let j = from.0;
     let stride = stride_of(size);
     let e = j / stride;
     let t = j % stride;
+    Homes {
+        digits: second_digits(size, e, t),
+        start: 64 * t + e,
+        step: 8,
+    }
+}
+
+// How many digits of choice 1 are "valid if e < 8 and 8t + d < B": the lowest B − 8t of eight.
+fn second_digits(size: usize, e: usize, t: usize) -> usize
+    requires { ⌜ (size ≤ 65536) × (8 * t ≤ size) ⌝ }
+    ensures { λ r. ⌜ (r ≤ 8) × ((d : ℕ) → d < 8 → ltb e 8 && ltb (8 * t + d) size ≡ ltb d r) ⌝ }
+{
     if 8 <= e {
-        return Home::Invalid;
+        return 0;
     }
-    if size <= 8 * t + digit {
-        return Home::Invalid;
-    }
-    Home::At(Front(64 * t + 8 * digit + e))
+    let left = size - 8 * t;
+    if 8 <= left { 8 } else { left }
 }

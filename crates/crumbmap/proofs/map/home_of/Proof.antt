@@ -1,48 +1,73 @@
 -- `home_of` goes back by the crumb's choice.
-use native.Mathlib.Omega.{arith}
 use mathlib.Core.Path.{_≡_}
 use Prim.Native.Nat.{_<_, _≤_, _%_, _-_}
-use borrow.Author.Tests.{lt-ltb, le-ltb}
-use Rattle.crumbmap.specs.CrumbMap.{home}
+use native.Mathlib.Omega.{arith}
 use borrow.Author.Needs.{needs}
+use borrow.Author.Tests.{lt-ltb, le-ltb}
+use Rattle.crumbmap.specs.Layouts.{fronts}
+use Rattle.crumbmap.specs.CrumbMap.{home}
+use Rattle.crumbmap.specs.Places.{homeIn}
+use Rattle.crumbmap.proofs.CrumbMapLaws.{homeIn-lt}
 use Rattle.crumbmap.proofs.map.home_of.Statement.{statement}
 use Rattle.crumbmap.proofs.map.home_of.Tie as tie
 
-cast-first-home : tie.Need-cast-first-home
-cast-first-home c = search needs
+first-homes-requires : tie.Need-first-homes-requires
+first-homes-requires c κs = search needs
 
-first-home-requires : tie.Need-first-home-requires
-first-home-requires c κs = search needs
+cast-home-at : tie.Need-cast-home-at
+cast-home-at c = search needs
 
-returns : tie.Need-returns
+-- a crumb of choice 0 is its digit
+by-first : (c : tie.After-first-homes) → let a = c .before .before .args in home (a .size) (a .from .0) (a .crumb) ≡ homeIn (c .first-homes .result) (a .crumb % 8)
 unfolding home
-returns c =
+by-first c =
     let crumb = c .before .before .args .crumb in
     let first : crumb < 8 = omega arith in
     let digit : crumb % 8 ≡ crumb = omega arith in
-    rw (lt-ltb _ _ first, ← digit) (c .first-home .ensures)
+    rw (lt-ltb _ _ first, digit) (c .first-homes .ensures .leads crumb first)
 
-cast-second-home : tie.Need-cast-second-home
-cast-second-home c = search needs
+home-at-requires : tie.Need-home-at-requires
+unfolding fronts
+home-at-requires c κs l =
+    let a = c .before .before .args in
+    omega (arith, homeIn-lt (a .size) (a .from .0) (a .crumb) _ _ (omega arith) (by-first c) l)
 
-second-home-requires : tie.Need-second-home-requires
-second-home-requires c κs = search needs
+returns : tie.Need-returns
+returns c = rw (by-first (c .before)) (c .home-at .ensures)
 
-returns-2 : tie.Need-returns-2
+second-homes-requires : tie.Need-second-homes-requires
+second-homes-requires c κs = search needs
+
+cast-home-at-2 : tie.Need-cast-home-at-2
+cast-home-at-2 c = search needs
+
+-- a crumb of choice 1 is its digit and 8
+by-second : (c : tie.After-second-homes) → let a = c .before .before .args in home (a .size) (a .from .0) (a .crumb) ≡ homeIn (c .second-homes .result) (a .crumb % 8)
 unfolding home
-returns-2 c =
+by-second c =
     let crumb = c .before .before .args .crumb in
     let second : 8 ≤ crumb = omega arith in
     let digit : crumb % 8 ≡ crumb - 8 = omega arith in
-    rw (le-ltb _ _ second, ← digit) (c .second-home .ensures)
+    rw (le-ltb _ _ second, digit) (c .second-homes .ensures .leads (crumb - 8) (omega arith))
+
+home-at-requires-2 : tie.Need-home-at-requires-2
+unfolding fronts
+home-at-requires-2 c κs l =
+    let a = c .before .before .args in
+    omega (arith, homeIn-lt (a .size) (a .from .0) (a .crumb) _ _ (omega arith) (by-second c) l)
+
+returns-2 : tie.Need-returns-2
+returns-2 c = rw (by-second (c .before)) (c .home-at2 .ensures)
 
 pub home-of-spec : {M : Type 1} → statement M
 home-of-spec =
     tie.close
     (tie.spec
-    cast-first-home
-    first-home-requires
+    first-homes-requires
+    cast-home-at
+    home-at-requires
     returns
-    cast-second-home
-    second-home-requires
+    second-homes-requires
+    cast-home-at-2
+    home-at-requires-2
     returns-2)

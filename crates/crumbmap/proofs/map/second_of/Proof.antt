@@ -33,7 +33,7 @@ returns c =
     let a = c .before .args in
     rw (c .stride-of .ensures .0) (record {
       bucket = refl;
-      crumb = refl;
+      crumb = omega arith;
       inside = bucketOf-lt false (a .size) (a .front .0) (c .before .pre .0);
       small = crumbOf-lt false (a .front .0);
     })

@@ -1,27 +1,50 @@
--- `crumbmap::valid::valid_crumbs` meets its contract: the digits of both choices side by side.
+-- `valid_crumbs` puts the valid digits of both choices side by side.
 use native.Mathlib.Omega.{arith}
 use borrow.Author.Needs.{needs}
-use Rattle.crumbmap.proofs.MarkLaws.{marks-home}
+use Rattle.crumbmap.specs.CrumbMap.{firstHome, secondHome}
+use Rattle.crumbmap.specs.Marks.{Marks}
+use Rattle.crumbmap.proofs.MarkLaws.{marks-back, marks-home}
 use Rattle.crumbmap.proofs.valid.valid_crumbs.Statement.{statement}
 use Rattle.crumbmap.proofs.valid.valid_crumbs.Tie as tie
 
-first-digits-requires : tie.Need-first-digits-requires
-first-digits-requires c κs = search needs
+first-homes-requires : tie.Need-first-homes-requires
+first-homes-requires c κs = search needs
 
-second-digits-requires : tie.Need-second-digits-requires
-second-digits-requires c κs = search needs
+second-homes-requires : tie.Need-second-homes-requires
+second-homes-requires c κs = search needs
+
+lowest-requires : tie.Need-lowest-requires
+lowest-requires c κs = search needs
+
+lowest-requires-2 : tie.Need-lowest-requires-2
+lowest-requires-2 c κs = search needs
+
+-- the digits of each choice
+firsts : (c : tie.After-lowest2) → let a = c .before .before .before .before .args in Marks 8 (firstHome (a .size) (a .from .0)) (c .before .lowest .result)
+firsts c = rw (c .before .lowest .ensures) (marks-back (c .before .before .before .first-homes .ensures))
+
+seconds : (c : tie.After-lowest2) → let a = c .before .before .before .before .args in Marks 8 (secondHome (a .size) (a .from .0)) (c .lowest2 .result)
+seconds c = rw (c .lowest2 .ensures) (marks-back (c .before .before .second-homes .ensures))
 
 mul-result : tie.Need-mul-result
-mul-result c = omega (arith, c .second-digits .ensures .small)
+mul-result c = omega (arith, seconds c .small)
 
 add-result : tie.Need-add-result
-add-result c = omega (arith, c .before .first-digits .ensures .small, c .second-digits .ensures .small)
+add-result c = omega (arith, firsts c .small, seconds c .small)
 
 returns : tie.Need-returns
 returns c =
-    let a = c .before .before .args in
-    marks-home (a .size) (a .from .0) _ _ (c .before .first-digits .ensures) (c .second-digits .ensures)
+    let a = c .before .before .before .before .args in
+    marks-home (a .size) (a .from .0) _ _ (firsts c) (seconds c)
 
 pub valid-crumbs-spec : {M : Type 1} → statement M
 valid-crumbs-spec =
-    tie.close (tie.spec first-digits-requires second-digits-requires mul-result add-result returns)
+    tie.close
+    (tie.spec
+    first-homes-requires
+    second-homes-requires
+    lowest-requires
+    lowest-requires-2
+    mul-result
+    add-result
+    returns)
