@@ -1,4 +1,4 @@
--- A list written into a lent slice: its length, its part, and two of them joined.
+-- A list written into a lent slice: from the bytes of a bucket, its length, its part, and two of them joined.
 use mathlib.Core.Path.{_≡_, sym, _∙_, ap}
 use Prim.Native.Nat.{ℕ, suc, _+_, _-_, _/_, _%_, _≤_}
 use mathlib.Core.Bool.{Bool, true, false, cond}
@@ -13,6 +13,11 @@ use Rattle.buckets.specs.Buckets.{carrying}
 use Rattle.image.specs.ImageReads.{inBack, BackRead}
 use Rattle.image.specs.Listed.{Listed}
 use Rattle.machine.proofs.BagLaws.{ascending-carrying}
+
+-- a list computed from lent bytes is the same list of the bucket whose bytes they are
+pub listed-bytes : (g : List ℕ → List ℕ) {lent bytes old new : List ℕ} {n : ℕ} → lent ≡ bytes → (n ≡ length (g lent)) × (new ≡ g lent ++ drop n old)
+    → Listed (g bytes) old n new
+listed-bytes g e l = rw (sym e) (record { many = l .0; stands = l .1 })
 
 -- a list that was written stands at the start
 module _ {xs old : List ℕ} {n : ℕ} {new : List ℕ} (l : Listed xs old n new) where

@@ -1,5 +1,5 @@
 -- Lists that were written, and the members of a front bucket that was read, as the machine lists them.
--- Main results: `listed-merged`, `listed-mapped`, `listed-joined`; `members-at`, and `held-few`, `held-full`, `held-unsound`, what counting says.
+-- Main results: `listed-merged`; `way-counted`, `way-listed`; `members-at`, and `held-few`, `held-full`, `held-unsound`, what counting says.
 use mathlib.Core.Path.{_≡_, refl, ap}
 use Prim.Native.Nat.{ℕ, _+_, _-_, _≤_, _<_}
 use mathlib.Core.Bool.{Bool, true, false, cond}
@@ -10,9 +10,13 @@ use lib.Dec.{T, ltb}
 use borrow.Author.Tests.{ltb-true, ltb-false, lt-ltb, le-ltb}
 use Rattle.multiset.specs.Multisets.{ascending, Below}
 use Rattle.crumbmap.specs.Layouts.{layout1, keys, fronts}
-use Rattle.crumbmap.specs.CrumbMap.{firstBucket, secondBucket, firstCrumb, secondCrumb}
+use Rattle.crumbmap.specs.CrumbMap.{firstBucket, secondBucket, firstCrumb, secondCrumb, bucketOf, crumbOf}
+use Rattle.crumbmap.specs.Places.{Leads}
+use Rattle.crumbmap.specs.declared.Overflow.{Overflow}
 use Rattle.buckets.specs.Buckets.{carrying}
+use Rattle.minifilter.specs.Readings.{backList, SoundBack}
 use Rattle.machine.specs.Results.{accepted, refused, andThen}
+use Rattle.machine.specs.Images.{bucketAt}
 use Rattle.machine.specs.Bags.{addedAll}
 use Rattle.machine.specs.Machine.{backyard, overflow, membersAt}
 use Rattle.image.specs.ImageReads.{inFront, inBack, FrontIn, FrontRead, BothRead}
@@ -22,7 +26,8 @@ use Rattle.listing.specs.declared.Held.{Held}
 use Rattle.listing.specs.declared.Held.the-variants as M
 use Rattle.machine.proofs.BagLaws.{below-carrying, length-addedAll, ascending-addedAll, below-addedAll}
 use Rattle.listing.proofs.MergedLists.{addedAll-nil}
-use Rattle.image.proofs.ListedLaws.{listed-take, carrying-room, carrying-order}
+use Rattle.image.proofs.ImageReadLaws.{chosen-way}
+use Rattle.image.proofs.ListedLaws.{listed-bytes, listed-take, carrying-room, carrying-order}
 
 -- two lists that were written, merged into a third
 module _ {xs ys a b a' b' : List ℕ} {n m : ℕ} (l : Listed xs a n a') (k : Listed ys b m b') where
@@ -36,6 +41,19 @@ module _ {xs ys a b a' b' : List ℕ} {n m : ℕ} (l : Listed xs a n a') (k : Li
     many = omega (arith, l .many, k .many, length-addedAll xs ys);
     stands = rw (l .many, k .many) (rw (listed-take l, listed-take k) at e);
   }
+
+-- the lent bytes of the backyard bucket that a choice leads to: what stands in them with the crumb is First(f), or Second(f)
+module _ (t : Bool) (img : List ℕ) {B f : ℕ} {w : Overflow} (leads : Leads t B f w) {lent : List ℕ} (bytes : lent ≡ bucketAt (fronts B + w .bucket .0) img) where
+  pub way-sound : BothRead B f img → SoundBack lent × (w .crumb < 16)
+  way-sound both = rw bytes (chosen-way both t leads .sound, leads .small)
+
+  pub way-counted : {n : ℕ} → n ≡ length (carrying (w .crumb) (backList lent)) → n ≡ length (carrying (crumbOf t f) (inBack B (bucketOf t B f) img))
+  way-counted e = rw (bytes, leads .bucket, leads .crumb) at e
+
+  pub way-listed : {old new : List ℕ} {n : ℕ}
+      → (n ≡ length (carrying (w .crumb) (backList lent))) × (new ≡ carrying (w .crumb) (backList lent) ++ drop n old)
+      → Listed (carrying (crumbOf t f) (inBack B (bucketOf t B f) img)) old n new
+  way-listed l = rw (leads .bucket, leads .crumb) at (listed-bytes (λ (b : List ℕ). carrying (w .crumb) (backList b)) bytes l)
 
 -- First(f) and Second(f) together
 module _ (B f : ℕ) (img : List ℕ) where

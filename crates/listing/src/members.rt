@@ -7,13 +7,15 @@ use crumbmap::Front;
 use crumbmap::map::first_of;
 use crumbmap::map::second_of;
 use image::Behind;
-use image::back::count_carrying_at;
-use image::back::list_carrying_at;
 use image::back::read_behind;
-use image::front::count_front_at;
-use image::front::list_front_at;
 use image::front::read_front_at;
+use image::place::back_bucket;
+use image::place::bucket;
 use minifilter::Reading;
+use minifilter::find::count_carrying;
+use minifilter::find::count_front;
+use minifilter::find::list_carrying;
+use minifilter::find::list_front;
 ghost use mathlib.Core.Path.{_≡_};
 ghost use Prim.Native.Nat.{_<_, _≤_};
 ghost use lib.ListN.{length};
@@ -43,8 +45,10 @@ fn count_overflow(image: &[u8], size: usize, front: Front) -> usize
     requires { ⌜ BehindRead size (front .0) (now image) ⌝ }
     ensures { λ r. ⌜ (r ≡ length (overflowIn size (front .0) (now (image .entry)))) × (r ≤ 44) ⌝ }
 {
-    let first = count_carrying_at(image, size, first_of(front, size));
-    let second = count_carrying_at(image, size, second_of(front, size));
+    let b0 = first_of(front, size);
+    let first = count_carrying(back_bucket(image, size, b0.bucket), b0.crumb);
+    let b1 = second_of(front, size);
+    let second = count_carrying(back_bucket(image, size, b1.bucket), b1.crumb);
     first + second
 }
 
@@ -53,8 +57,9 @@ pub fn list_members(image: &[u8], size: usize, front: Front, out: &mut [u32]) ->
     requires { ⌜ MembersRead size (front .0) (now image) × (length (now out) ≡ 72) ⌝ }
     ensures { λ r. ⌜ Listed (membersIn size (front .0) (now (image .entry))) (now (out .entry)) r (now (out .exit)) ⌝ }
 {
-    if count_front_at(image, front) < 28 {
-        return list_front_at(image, front, &mut out[..28]);
+    let mine = bucket(image, front.0);
+    if count_front(mine) < 28 {
+        return list_front(mine, &mut out[..28]);
     }
     list_full(image, size, front, out)
 }
@@ -66,7 +71,7 @@ fn list_full(image: &[u8], size: usize, front: Front, out: &mut [u32]) -> usize
 {
     let mut keys = [0u32; 28];
     let mut over = [0u32; 44];
-    let n = list_front_at(image, front, &mut keys);
+    let n = list_front(bucket(image, front.0), &mut keys);
     let m = list_overflow(image, size, front, &mut over);
     merge_into(&keys[..n], &over[..m], out);
     n + m
@@ -79,8 +84,10 @@ fn list_overflow(image: &[u8], size: usize, front: Front, out: &mut [u32]) -> us
 {
     let mut first = [0u32; 22];
     let mut second = [0u32; 22];
-    let n = list_carrying_at(image, size, first_of(front, size), &mut first);
-    let m = list_carrying_at(image, size, second_of(front, size), &mut second);
+    let b0 = first_of(front, size);
+    let n = list_carrying(back_bucket(image, size, b0.bucket), b0.crumb, &mut first);
+    let b1 = second_of(front, size);
+    let m = list_carrying(back_bucket(image, size, b1.bucket), b1.crumb, &mut second);
     merge_into(&first[..n], &second[..m], out);
     n + m
 }

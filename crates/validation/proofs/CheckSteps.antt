@@ -1,5 +1,5 @@
 -- The steps of a check: what a pass over buckets or members still has before it, turn by turn; what is known once every bucket was read.
--- Main results: `front-on`, `back-on`, `early-on`, `members-on` with their `-stop` and `-end`, `all-read`, `held-count`.
+-- Main results: `front-on`, `back-on`, `early-on`, `members-on` with their `-stop` and `-end`, `all-read`.
 use mathlib.Core.Path.{_≡_, refl}
 use Prim.Native.Nat.{ℕ, suc, _+_, _/_, _%_, _-_, _≤_, _<_}
 use mathlib.Core.Bool.{Bool, true, false}

@@ -8,14 +8,16 @@ use crumbmap::Front;
 use crumbmap::Home;
 use crumbmap::map::home_of;
 use image::Size;
-use image::back::list_back_at;
 use image::back::read_back_at;
-use image::front::count_front_at;
-use image::front::largest_front_at;
 use image::front::read_front_at;
+use image::place::back_bucket;
+use image::place::bucket as bucket_of;
 use image::place::size_of;
 use image::place::table_of;
 use minifilter::Reading;
+use minifilter::find::count_front;
+use minifilter::find::largest_front;
+use minifilter::find::list_back;
 ghost use mathlib.Core.Path.{_≡_};
 ghost use Prim.Native.Nat.{_/_, _%_, _<_};
 ghost use Rattle.crumbmap.specs.Layouts.{layout1, fronts, backyards};
@@ -107,7 +109,7 @@ fn bucket_in_turn(image: &[u8], size: usize, bucket: Backyard) -> bool
     ensures { λ r. ⌜ r ≡ allInTurn layout1 size (bucket .0) (now (image .entry)) (inBack size (bucket .0) (now (image .entry))) ⌝ }
 {
     let mut members = [0u32; 22];
-    let n = list_back_at(image, size, bucket, &mut members);
+    let n = list_back(back_bucket(image, size, bucket), &mut members);
     all_in_turn(image, size, bucket, &members[..n])
 }
 
@@ -134,8 +136,9 @@ fn member_in_turn(image: &[u8], size: usize, bucket: Backyard, member: u32) -> b
     let Home::At(front) = home_of(size, bucket, member % 16) else {
         return false;
     };
-    if count_front_at(image, front) < 28 {
+    let mine = bucket_of(image, front.0);
+    if count_front(mine) < 28 {
         return false;
     }
-    largest_front_at(image, front) <= member / 16
+    largest_front(mine) <= member / 16
 }

@@ -1,33 +1,54 @@
 -- Front(f), which holds 28, and those behind it, merged.
-use borrow.Author.Needs.{needs}
-use mathlib.Core.Path.{refl}
+use mathlib.Core.Path.{_≡_, refl}
+use Prim.Native.Nat.{ℕ}
 use native.Mathlib.Omega.{arith}
-use Rattle.listing.specs.Listings.{membersIn}
+use lib.ListN.{replicate}
+use Rattle.minifilter.specs.Readings.{frontList}
+use Rattle.image.specs.ImageReads.{inFront, BothRead}
+use Rattle.image.specs.Listed.{Listed}
+use Rattle.image.proofs.ListedLaws.{listed-bytes, listed-fits, listed-length}
+use Rattle.listing.specs.Listings.{overflowIn, behindIn, membersIn}
 use Rattle.listing.proofs.ListingLaws.{behind-full, overflow-order, overflow-room, listed-mergeable, listed-merged}
-use Rattle.image.proofs.ListedLaws.{listed-fits, listed-length}
+use borrow.Author.Needs.{needs}
 use Rattle.listing.proofs.members.list_full.Statement.{statement}
 use Rattle.listing.proofs.members.list_full.Tie as tie
 
-slice-aggregate-list-front-at : tie.Need-slice-aggregate-list-front-at
-slice-aggregate-list-front-at c = search needs
+-- those behind it count, and were read
+behind : (s : tie.Start) → let a = s .args in
+    (behindIn (a .size) (a .front .0) (a .image .now) ≡ overflowIn (a .size) (a .front .0) (a .image .now)) × BothRead (a .size) (a .front .0) (a .image .now)
+behind s = behind-full (s .args .size) (s .args .front .0) (s .args .image .now) (s .pre .0) (s .pre .1)
 
-list-front-at-requires : tie.Need-list-front-at-requires
-list-front-at-requires c κs = search needs
+-- where the arguments came, and what listing the front bucket wrote
+abbrev start : tie.After-list-front → tie.Start
+start c = c .before .before .before .before .before
+
+abbrev earlier : tie.After-list-overflow → tie.After-list-front
+earlier c = c .before .before .before
+
+front : (c : tie.After-list-front) → Listed (inFront (start c .args .front .0) (start c .args .image .now)) (replicate {A = ℕ} 28 0)
+    (c .list-front .result) (c .list-front .last .1 .0)
+front c = listed-bytes frontList (c .before .before .bucket .ensures .0) (c .list-front .ensures)
+
+bucket-requires : tie.Need-bucket-requires
+bucket-requires c κs = search needs
+
+slice-aggregate-list-front : tie.Need-slice-aggregate-list-front
+slice-aggregate-list-front c = search needs
+
+list-front-requires : tie.Need-list-front-requires
+list-front-requires c κs = let b = c .before in rw (b .bucket .ensures .0) (b .before .before .before .pre .0 .front .sound, refl)
 
 slice-aggregate-list-overflow : tie.Need-slice-aggregate-list-overflow
 slice-aggregate-list-overflow c = search needs
 
 list-overflow-requires : tie.Need-list-overflow-requires
-list-overflow-requires c κs =
-    let s = c .before .before .before .before .before .before in
-    let r = behind-full (s .args .size) (s .args .front .0) (s .args .image .now) (s .pre .0) (s .pre .1) in
-    (record { within = s .pre .0 .within; both = r .1 }, refl)
+list-overflow-requires c κs = let s = start (c .before .before) in (record { within = s .pre .0 .within; both = behind s .1 }, refl)
 
 array-share-prefix-keys : tie.Need-array-share-prefix-keys
-array-share-prefix-keys c = listed-fits (c .before .before .before .before .list-front-at .ensures)
+array-share-prefix-keys c = listed-fits (front (earlier (c .before)))
 
 slice-aggregate-merge-into : tie.Need-slice-aggregate-merge-into
-slice-aggregate-merge-into c = listed-length (c .before .before .before .before .before .list-front-at .ensures)
+slice-aggregate-merge-into c = listed-length (front (earlier (c .before .before)))
 
 array-share-prefix-over : tie.Need-array-share-prefix-over
 array-share-prefix-over c = listed-fits (c .before .before .list-overflow .ensures)
@@ -37,20 +58,25 @@ slice-aggregate-merge-into-2 c = listed-length (c .before .before .before .list-
 
 merge-into-requires : tie.Need-merge-into-requires
 merge-into-requires c κs =
-    let s = c .before .before .before .before .before .before .before .before .before .before .before in
-    let b = behind-full (s .args .size) (s .args .front .0) (s .args .image .now) (s .pre .0) (s .pre .1) .1 in
-    let m = overflow-room (s .args .size) (s .args .front .0) (s .args .image .now) b in
-    listed-mergeable (c .before .before .before .before .before .before .before .list-front-at .ensures) (c .before .before .before .before .list-overflow .ensures)
-    (s .pre .0 .front .list .order) (overflow-order (s .args .size) (s .args .front .0) (s .args .image .now) b)
-    (omega (arith, s .pre .0 .front .list .room, m, s .pre .2)) (omega (arith, s .pre .2))
+    let d = c .before .before .before .before in
+    let s = start (earlier d) in
+    let a = s .args in
+    let b = behind s .1 in
+    listed-mergeable (front (earlier d)) (d .list-overflow .ensures) (s .pre .0 .front .list .order) (overflow-order (a .size) (a .front .0) (a .image .now) b)
+    (omega (arith, s .pre .0 .front .list .room, overflow-room (a .size) (a .front .0) (a .image .now) b, s .pre .2)) (omega (arith, s .pre .2))
 
 add-result : tie.Need-add-result
 add-result c =
-    let s = c .before .before .before .before .before .before .before .before .before .before .before .before .before .before in
-    let n = c .before .before .before .before .before .before .before .before .before .before .list-front-at .ensures .many in
-    let m = c .before .before .before .before .before .before .before .list-overflow .ensures .many in
-    let b = behind-full (s .args .size) (s .args .front .0) (s .args .image .now) (s .pre .0) (s .pre .1) .1 in
-    omega (arith, overflow-room (s .args .size) (s .args .front .0) (s .args .image .now) b, s .pre .0 .front .list .room, n, m)
+    let d = c .before .before .before .before .before .before .before in
+    let s = start (earlier d) in
+    let a = s .args in
+    omega (
+      arith,
+      front (earlier d) .many,
+      d .list-overflow .ensures .many,
+      s .pre .0 .front .list .room,
+      overflow-room (a .size) (a .front .0) (a .image .now) (behind s .1),
+    )
 
 same-length : tie.Need-same-length
 same-length c = search needs
@@ -58,17 +84,16 @@ same-length c = search needs
 returns : tie.Need-returns
 unfolding membersIn
 returns c =
-    let n = c .before .before .before .before .before .before .before .before .before .before .list-front-at .ensures in
-    let m = c .before .before .before .before .before .before .before .list-overflow .ensures in
-    let s = c .before .before .before .before .before .before .before .before .before .before .before .before .before .before in
-    rw (behind-full (s .args .size) (s .args .front .0) (s .args .image .now) (s .pre .0) (s .pre .1) .0) (listed-merged n m (c .before .before .merge-into .ensures))
+    let d = c .before .before .before .before .before .before .before in
+    rw (behind (start (earlier d)) .0) (listed-merged (front (earlier d)) (d .list-overflow .ensures) (c .before .before .merge-into .ensures))
 
 pub list-full-spec : {M : Type 1} → statement M
 list-full-spec =
     tie.close
     (tie.spec
-    slice-aggregate-list-front-at
-    list-front-at-requires
+    bucket-requires
+    slice-aggregate-list-front
+    list-front-requires
     slice-aggregate-list-overflow
     list-overflow-requires
     array-share-prefix-keys

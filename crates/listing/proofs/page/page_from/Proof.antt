@@ -32,7 +32,7 @@ returns : tie.Need-returns
 unfolding fronts
 returns c =
     let s = c .before .before .before .before .before .before .before .before in
-    page-no-room (s .args .size) (s .args .start) (s .args .image .now) (s .args .out .now) (s .pre .1) (ran (c .before .before)) (c .before .if1 .taken) (omega arith)
+    page-no-room (s .args .size) (s .args .start) (s .args .image .now) (s .args .out .now) (s .pre .1) (ran (c .before .before)) (omega (arith, c .before .if1 .taken)) (omega arith)
 
 write-run-requires : tie.Need-write-run-requires
 write-run-requires c κs = ran (c .before .before)

@@ -4,6 +4,7 @@ use Prim.Native.Nat.{_/_, _%_}
 use mathlib.Core.Option.{some}
 use native.Mathlib.Omega.{arith}
 use lib.ListN.{length}
+use Rattle.multiset.specs.Multisets.{largest}
 use Rattle.crumbmap.specs.CrumbMap.{home}
 use Rattle.crumbmap.proofs.CrumbMapLaws.{home-lt}
 use Rattle.image.specs.ImageReads.{inFront, FrontRead}
@@ -38,27 +39,39 @@ read c =
     let s = start c in
     s .pre .0 .front _ (home-lt (s .args .size) (s .args .bucket .0) (s .args .member % 16) (c .front .given .0 .0 .0) (omega arith) (homed c))
 
--- and holds all it can
-all-held : (c : tie.Else1) → length (inFront (c .before .before .before .front .given .0 .0 .0) (start (c .before .before .before) .args .image .now)) ≡ 28
-all-held c = omega (arith, c .if1 .left, c .before .count-front-at .ensures, read (c .before .before .before) .list .room)
+bucket-requires : tie.Need-bucket-requires
+bucket-requires c κs = read (c .before) .inside
 
-count-front-at-requires : tie.Need-count-front-at-requires
-count-front-at-requires c κs = read (c .before)
+count-front-requires : tie.Need-count-front-requires
+count-front-requires c κs = rw (c .bucket .ensures .0) (read (c .before .before) .sound)
+
+-- how many it holds, and that it holds all it can
+abbrev told : tie.After-count-front → tie.After-front
+told c = c .before .before .before
+
+counted : (c : tie.After-count-front) → c .count-front .result ≡ length (inFront (told c .front .given .0 .0 .0) (start (told c) .args .image .now))
+counted c = rw (c .before .bucket .ensures .0) at (c .count-front .ensures)
+
+all-held : (c : tie.Else1) → let t = told (c .before) in length (inFront (t .front .given .0 .0 .0) (start t .args .image .now)) ≡ 28
+all-held c = omega (arith, c .if1 .left, counted (c .before), read (told (c .before)) .list .room)
 
 returns-2 : tie.Need-returns-2
 returns-2 c =
-    let t = c .before .before .before in
+    let t = told (c .before) in
     let a = start t .args in
-    rw (homed t) (sym (turn-short (a .member / 16) (t .front .given .0 .0 .0) (a .image .now) (read t) (omega (arith, c .before .count-front-at .ensures))))
+    rw (homed t) (sym (turn-short (a .member / 16) (t .front .given .0 .0 .0) (a .image .now) (read t) (omega (arith, c .if1 .taken, counted (c .before)))))
 
-largest-front-at-requires : tie.Need-largest-front-at-requires
-largest-front-at-requires c κs = (read (c .before .before .before), all-held c)
+largest-front-requires : tie.Need-largest-front-requires
+largest-front-requires c κs = rw (c .before .before .bucket .ensures .0) (read (told (c .before)) .sound, all-held c)
 
 returns-3 : tie.Need-returns-3
 returns-3 c =
-    let t = c .before .before .before .before in
+    let n = c .before .before in
+    let t = told n in
     let a = start t .args in
-    rw (homed t, c .largest-front-at .ensures) (sym (turn-full (a .member / 16) (t .front .given .0 .0 .0) (a .image .now) (read t) (all-held (c .before))))
+    let f = t .front .given .0 .0 .0 in
+    let most : c .largest-front .result ≡ largest (inFront f (a .image .now)) = rw (n .before .bucket .ensures .0) at (c .largest-front .ensures) in
+    rw (homed t, most, turn-full (a .member / 16) f (a .image .now) (read t) (all-held (c .before)))
 
 pub member-in-turn-spec : {M : Type 1} → statement M
 member-in-turn-spec =
@@ -68,7 +81,8 @@ member-in-turn-spec =
     enum-known-front
     enum-told
     returns
-    count-front-at-requires
+    bucket-requires
+    count-front-requires
     returns-2
-    largest-front-at-requires
+    largest-front-requires
     returns-3)
