@@ -10,18 +10,20 @@ use crumbmap::Overflow;
 use crumbmap::map::first_of;
 use crumbmap::map::second_of;
 use image::Size;
-use image::back::count_back_at;
 use image::back::insert_back_at;
-use image::back::rank_back_at;
 use image::fresh::clear_all;
 use image::fresh::fresh;
-use image::front::count_front_at;
 use image::front::fill_front_at;
 use image::front::whichever;
 use image::front::write_front_at;
+use image::place::back_bucket;
+use image::place::bucket;
 use image::place::size_of;
 use listing::lists::merge_into;
 use listing::members::list_members;
+use minifilter::find::count_back;
+use minifilter::find::count_front;
+use minifilter::find::rank_back;
 use validation::check::check_sized;
 use words::select::entries;
 ghost use mathlib.Core.Path.{_≡_};
@@ -138,10 +140,10 @@ fn merge_front<'a>(
     ensures { λ r. ⌜ reached r (now (target .exit))
         ≡ bothInserted size (front .0) (now (first .entry)) (now (second .entry)) (now (target .entry)) ⌝ }
 {
-    if count_front_at(first, front) == 0 {
+    if count_front(bucket(first, front.0)) == 0 {
         return take_over(table, first, second, size, front, target);
     }
-    if count_front_at(second, front) == 0 {
+    if count_front(bucket(second, front.0)) == 0 {
         return take_over(table, first, second, size, front, target);
     }
     merge_both(table, first, second, size, front, target)
@@ -176,7 +178,7 @@ fn add_behind(table: &[u8], source: &[u8], size: usize, front: Front, target: &m
         ≡ pushAll layout1 size (front .0) (behindIn size (front .0) (now (source .entry))) (now (target .entry)))
         × BehindRead size (front .0) (now (target .exit)) ⌝ }
 {
-    if count_front_at(source, front) < 28 {
+    if count_front(bucket(source, front.0)) < 28 {
         return true;
     }
     let mut keys = [0u32; 72];
@@ -270,8 +272,8 @@ fn push(table: &[u8], image: &mut [u8], size: usize, front: Front, key: u32) -> 
 {
     let first = first_of(front, size);
     let second = second_of(front, size);
-    let n0 = count_back_at(image, size, first.bucket);
-    let n1 = count_back_at(image, size, second.bucket);
+    let n0 = count_back(back_bucket(image, size, first.bucket));
+    let n1 = count_back(back_bucket(image, size, second.bucket));
     if n0 < n1 {
         put_behind(table, image, size, first, key);
         return true;
@@ -290,6 +292,6 @@ fn put_behind(table: &[u8], image: &mut [u8], size: usize, way: Overflow, key: u
         (added (key * 16 + way .crumb) (inBack size (way .bucket .0) (now (image .entry)))) (now (image .entry)) ⌝ }
 {
     let member = key * 16 + way.crumb;
-    let slot = rank_back_at(table, image, size, way.bucket, member);
+    let slot = rank_back(table, back_bucket(image, size, way.bucket), member);
     insert_back_at(image, size, way.bucket, slot, member);
 }

@@ -3,10 +3,11 @@ use mathlib.Core.Path.{_≡_, refl, _∙_, ap}
 use Prim.Native.Nat.{ℕ, _-_, _≤_, _<_}
 use mathlib.Core.List.{List}
 use native.Mathlib.Omega.{arith}
-use lib.ListN.{take, drop, getD}
+use lib.ListN.{length, take, drop, getD}
 use borrow.Author.Needs.{needs}
 use Rattle.multiset.proofs.DigitLaws.{below-drop}
 use Rattle.crumbmap.specs.Layouts.{layout1, keys as allKeys}
+use Rattle.image.specs.ImageReads.{inFront}
 use Rattle.listing.specs.Listings.{membersIn, MembersRead}
 use Rattle.validation.specs.Passes.{AllRead}
 use Rattle.merging.specs.Spills.{pushAll}
@@ -31,24 +32,32 @@ all c = read-of (start c .args .size) (start c .args .source .now) (bytes c) (go
 members : (c : tie.After-slice-known) → MembersRead (start c .args .size) (start c .args .front .0) (start c .args .source .now)
 members c = let s = start c in members-read (s .args .size) (s .args .front .0) (s .args .source .now) (good c) (all c) (s .pre .2 .within .front)
 
-count-front-at-requires : tie.Need-count-front-at-requires
-count-front-at-requires c κs = members c .front
+bucket-requires : tie.Need-bucket-requires
+bucket-requires c κs = members c .front .inside
+
+count-front-requires : tie.Need-count-front-requires
+count-front-requires c κs = rw (c .bucket .ensures .0) (members (c .before) .front .sound)
+
+-- how many stand in front
+few : (c : tie.After-count-front) → let s = start (c .before .before) in
+    c .count-front .result ≡ length (inFront (s .args .front .0) (s .args .source .now))
+few c = rw (c .before .bucket .ensures .0) at (c .count-front .ensures)
 
 returns : tie.Need-returns
 unfolding pushAll
 returns c =
-    let p = c .before .before in
+    let p = c .before .before .before in
     let s = start p in
-    (rw (behind-few (s .args .size) (s .args .front .0) (s .args .source .now) (members p) (omega (arith, c .before .count-front-at .ensures, c .if1 .taken))), s .pre .2)
+    (rw (behind-few (s .args .size) (s .args .front .0) (s .args .source .now) (members p) (omega (arith, few (c .before), c .if1 .taken))), s .pre .2)
 
 slice-aggregate-list-members : tie.Need-slice-aggregate-list-members
 slice-aggregate-list-members c = search needs
 
 list-members-requires : tie.Need-list-members-requires
-list-members-requires c κs = (members (c .before .before .before), refl)
+list-members-requires c κs = (members (c .before .before .before .before), refl)
 
 abbrev known : tie.After-list-members → tie.After-slice-known
-known c = c .before .before .before .before
+known c = c .before .before .before .before .before
 
 -- at least 28 are listed, and at most 72
 many : (c : tie.After-list-members) → (28 ≤ c .list-members .result) × (c .list-members .result ≤ 72)
@@ -58,7 +67,7 @@ many c =
     let n = c .list-members .ensures .many in
     let l = length-members (s .args .size) (s .args .front .0) (s .args .source .now) (members p) in
     let m = members-fit (s .args .size) (s .args .front .0) (s .args .source .now) (members p) in
-    (omega (arith, n, l, c .before .before .before .count-front-at .ensures, c .before .before .if1 .left), omega (arith, n, m .2))
+    (omega (arith, n, l, few (c .before .before .before), c .before .before .if1 .left), omega (arith, n, m .2))
 
 -- those that are lent on
 part : (c : tie.After-list-members) → let a : _ = start (known c) .args in
@@ -98,7 +107,8 @@ pub add-behind-spec : {M : Type 1} → statement M
 add-behind-spec =
     tie.close
     (tie.spec
-    count-front-at-requires
+    bucket-requires
+    count-front-requires
     returns
     slice-aggregate-list-members
     list-members-requires

@@ -1,15 +1,15 @@
 -- The backyard bucket that n0 and n1 choose takes the key, or both are full.
-use mathlib.Core.Path.{_≡_, sym, _∙_}
-use Prim.Native.Nat.{_<_}
+use mathlib.Core.Path.{_≡_, sym, ap, _∙_}
+use Prim.Native.Nat.{ℕ, _<_}
 use mathlib.Core.Bool.{true, false}
 use native.Mathlib.Omega.{arith}
 use lib.ListN.{length}
 use borrow.Author.Needs.{needs}
 use borrow.Author.Tests.{lt-ltb, le-ltb}
 use Rattle.crumbmap.specs.CrumbMap.{firstBucket, secondBucket}
+use Rattle.crumbmap.specs.declared.Overflow.{Overflow}
 use Rattle.image.specs.ImageReads.{inBack, BothHold}
-use Rattle.image.proofs.ImageReadLaws.{chosen-way}
-use Rattle.image.proofs.ImageReadLaws.{room-first, room-second, room-left}
+use Rattle.image.proofs.ImageReadLaws.{chosen-way, room-first, room-second, room-left}
 use Rattle.merging.proofs.PushLaws.{push-stuck, push-to, push-keeps}
 use Rattle.merging.proofs.merge.push.Statement.{statement}
 use Rattle.merging.proofs.merge.push.Tie as tie
@@ -20,37 +20,63 @@ first-of-requires c κs = search needs
 second-of-requires : tie.Need-second-of-requires
 second-of-requires c κs = search needs
 
-count-back-at-requires : tie.Need-count-back-at-requires
-count-back-at-requires c κs = chosen-way (c .before .before .before .before .before .pre .1 .both) true (c .before .before .first-of .ensures)
+back-bucket-requires : tie.Need-back-bucket-requires
+back-bucket-requires c κs = chosen-way (c .before .before .before .before .before .pre .1 .both) true (c .before .before .first-of .ensures) .within
 
-count-back-at-requires-2 : tie.Need-count-back-at-requires-2
-count-back-at-requires-2 c κs = chosen-way (c .before .before .before .before .before .before .before .pre .1 .both) false (c .before .before .before .second-of .ensures)
+count-back-requires : tie.Need-count-back-requires
+count-back-requires c κs =
+    rw (c .back-bucket .ensures .0) (chosen-way (c .before .before .before .before .before .before .pre .1 .both) true (c .before .before .before .first-of .ensures) .sound)
 
-abbrev start : tie.After-count-back-at2 → tie.Start
-start c = c .before .before .before .before .before .before .before .before
+back-bucket-requires-2 : tie.Need-back-bucket-requires-2
+back-bucket-requires-2 c κs = chosen-way (c .before .before .before .before .before .before .before .before .pre .1 .both) false (c .before .before .before .before .second-of .ensures) .within
+
+count-back-requires-2 : tie.Need-count-back-requires-2
+count-back-requires-2 c κs =
+    rw (c .back-bucket2 .ensures .0) (chosen-way (c .before .before .before .before .before .before .before .before .before .pre .1 .both) false (c .before .before .before .before .before .second-of .ensures) .sound)
+
+-- the start, where both ways were found, and how many either bucket holds
+abbrev start : tie.After-count-back2 → tie.Start
+start c = c .before .before .before .before .before .before .before .before .before .before
+
+abbrev to-first : (c : tie.After-count-back2) → Overflow
+to-first c = c .before .before .before .before .before .before .before .first-of .result
+
+abbrev to-second : (c : tie.After-count-back2) → Overflow
+to-second c = c .before .before .before .before .before .before .second-of .result
+
+in-first : (c : tie.After-count-back2) → let a : _ = start c .args in
+    c .before .before .before .count-back .result ≡ length (inBack (a .size) (to-first c .bucket .0) (a .image .now))
+in-first c = let p = c .before .before .before in rw (p .before .back-bucket .ensures .0) at (p .count-back .ensures)
+
+in-second : (c : tie.After-count-back2) → let a : _ = start c .args in
+    c .count-back2 .result ≡ length (inBack (a .size) (to-second c .bucket .0) (a .image .now))
+in-second c = rw (c .before .back-bucket2 .ensures .0) at (c .count-back2 .ensures)
 
 -- how many b0 and b1 hold
-hold : (c : tie.After-count-back-at2) → let a : _ = start c .args in
-    BothHold (a .size) (a .front .0) (a .image .now) (c .before .before .count-back-at .result) (c .count-back-at2 .result)
-hold c = record {
-  read = start c .pre .1 .both;
-  first = sym (rw (c .before .before .before .before .before .first-of .ensures .bucket) at (c .before .before .count-back-at .ensures));
-  second = sym (rw (c .before .before .before .before .second-of .ensures .bucket) at (c .count-back-at2 .ensures));
-}
+hold : (c : tie.After-count-back2) → let a : _ = start c .args in
+    BothHold (a .size) (a .front .0) (a .image .now) (c .before .before .before .count-back .result) (c .count-back2 .result)
+hold c =
+    let a = start c .args in
+    let many : ℕ → ℕ = λ j. length (inBack (a .size) j (a .image .now)) in
+    record {
+      read = start c .pre .1 .both;
+      first = sym (in-first c ∙ ap many (c .before .before .before .before .before .before .before .first-of .ensures .bucket));
+      second = sym (in-second c ∙ ap many (c .before .before .before .before .before .before .second-of .ensures .bucket));
+    }
 
 -- the one that takes the key has a free slot
-first-room : (c : tie.After-count-back-at2) → c .before .before .count-back-at .result < c .count-back-at2 .result
-    → length (inBack (start c .args .size) (c .before .before .before .before .before .first-of .result .bucket .0) (start c .args .image .now)) < 22
-first-room c h = let b = hold c in omega (arith, c .before .before .count-back-at .ensures, b .second, b .read .second .list .room)
+first-room : (c : tie.After-count-back2) → c .before .before .before .count-back .result < c .count-back2 .result
+    → length (inBack (start c .args .size) (to-first c .bucket .0) (start c .args .image .now)) < 22
+first-room c h = let b = hold c in omega (arith, in-first c, b .second, b .read .second .list .room)
 
-second-room : (c : tie.After-count-back-at2) → (c .count-back-at2 .result ≡ 22 → ⊥)
-    → length (inBack (start c .args .size) (c .before .before .before .before .second-of .result .bucket .0) (start c .args .image .now)) < 22
-second-room c h = room-left (chosen-way (start c .pre .1 .both) false (c .before .before .before .before .second-of .ensures) .list .room) (λ q. h (c .count-back-at2 .ensures ∙ q))
+second-room : (c : tie.After-count-back2) → (c .count-back2 .result ≡ 22 → ⊥)
+    → length (inBack (start c .args .size) (to-second c .bucket .0) (start c .args .image .now)) < 22
+second-room c h = room-left (chosen-way (start c .pre .1 .both) false (c .before .before .before .before .before .before .second-of .ensures) .list .room) (λ q. h (in-second c ∙ q))
 
 put-behind-requires : tie.Need-put-behind-requires
 put-behind-requires c κs =
     let p = c .before .before in
-    let l = p .before .before .before .before .before .first-of .ensures in
+    let l = p .before .before .before .before .before .before .before .first-of .ensures in
     (start p .pre .0, chosen-way (start p .pre .1 .both) true l, first-room p (c .before .if1 .taken), l .small, start p .pre .2)
 
 same-length : tie.Need-same-length
@@ -59,7 +85,7 @@ same-length c = search needs
 returns : tie.Need-returns
 returns c =
     let p = c .before .before .before .before .before in
-    let l = p .before .before .before .before .before .first-of .ensures in
+    let l = p .before .before .before .before .before .before .before .first-of .ensures in
     let s = start p in
     let b = hold p in
     let h = c .before .before .before .before .if1 .taken in
@@ -83,7 +109,7 @@ returns-2 c =
 put-behind-requires-2 : tie.Need-put-behind-requires-2
 put-behind-requires-2 c κs =
     let p = c .before .before .before in
-    let l = p .before .before .before .before .second-of .ensures in
+    let l = p .before .before .before .before .before .before .second-of .ensures in
     (start p .pre .0, chosen-way (start p .pre .1 .both) false l, second-room p (c .before .if2 .left), l .small, start p .pre .2)
 
 same-length-3 : tie.Need-same-length-3
@@ -92,7 +118,7 @@ same-length-3 c = search needs
 returns-3 : tie.Need-returns-3
 returns-3 c =
     let p = c .before .before .before .before .before .before in
-    let l = p .before .before .before .before .second-of .ensures in
+    let l = p .before .before .before .before .before .before .second-of .ensures in
     let s = start p in
     let b = hold p in
     let h = c .before .before .before .before .if2 .left in
@@ -109,8 +135,10 @@ push-spec =
     (tie.spec
     first-of-requires
     second-of-requires
-    count-back-at-requires
-    count-back-at-requires-2
+    back-bucket-requires
+    count-back-requires
+    back-bucket-requires-2
+    count-back-requires-2
     put-behind-requires
     same-length
     returns
