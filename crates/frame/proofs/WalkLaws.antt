@@ -28,4 +28,4 @@ pub list-whole : (img : List ℕ) (r : Run) → length img ≡ 2176 → pageOf l
 unfolding pageOf pageFrom sizeOf lengthOf fronts
 list-whole img r l e =
     let k = andThen-accepted {A = Run} _ _ r (rw l at e) in
-    page-end (k .0) r (run-whole layout1 3 24 0 1728 img (k .0) (omega arith) (k .1)) (k .2)
+    page-end (k .0) r (run-whole layout1 3 24 0 room img (k .0) (omega arith) (k .1)) (k .2)

@@ -1,2 +1,2 @@
--- Laws of lines read byte by byte, and of the answer to a line.
-pub mod LineLaws
+-- Laws of the turns that the program makes.
+pub mod RunLaws

@@ -1,3 +1,2 @@
--- Lines of the small program, byte by byte.
-pub mod Lines
-pub mod Turns
+-- What reading and writing leave of the program's image.
+pub mod Runs

@@ -1,64 +1,71 @@
-// The small program: frames on standard input, one a line, are performed on a fresh image with B = 3 and answered on standard output.
+// The small program: it reads standard input and writes standard output. Lines, frames and text are the crate `lines`'.
 
-mod lines;
-
-use crate::lines::answer;
-use crate::lines::take_in;
-use breadcrumb::fresh;
 use libc::STDIN_FILENO;
+use libc::STDOUT_FILENO;
+use lines::answer::finish;
+use lines::piece::start;
+use lines::piece::step;
 ghost use mathlib.Core.Path.{_≡_};
 ghost use Prim.Native.Nat.{_≤_};
-ghost use lib.ListN.{length};
-ghost use Rattle.frames.specs.Turns.{Within19};
-
-// How reading went on: how many bytes of the next line are held, or that the input has ended.
-enum Went {
-    More(usize),
-    End,
-}
+ghost use lib.ListN.{length, take};
+ghost use Rattle.lines.specs.Inputs.{startImage};
+ghost use Rattle.frames.specs.Runs.{Took, Ran};
 
 fn main() {
     let mut image = [0u8; 2176];
-    fresh(&mut image);
+    start(&mut image);
     let mut line = [0u8; 19];
-    run(&mut image, &mut line);
+    let mut out = [0u8; 29397];
+    run(&mut image, &mut line, &mut out);
 }
 
 // Reads to the end of the input. A proved loop has to end, and nothing says that the input does: it counts down from a number that no run uses up.
-fn run(image: &mut [u8], line: &mut [u8])
-    requires { ⌜ (length (now image) ≡ 2176) × (length (now line) ≡ 19) ⌝ }
+fn run(image: &mut [u8], line: &mut [u8], out: &mut [u8])
+    requires { ⌜ (length (now image) ≡ 2176) × (length (now line) ≡ 19) × (length (now out) ≡ 29397) × (now image ≡ startImage) ⌝ }
+    ensures { λ _. ⌜ Ran (now (image .exit)) ⌝ }
 {
     let mut held = 0;
     let mut turns = u64::MAX;
     while turns > 0 {
         turns -= 1;
-        let Went::More(n) = read_on(image, line, held) else {
-            finish(image, line, held);
-            return;
-        };
-        held = n;
+        let mut buffer = io::buffer();
+        let got = libc::read(STDIN_FILENO, &mut buffer);
+        if got <= 0 {
+            break;
+        }
+        let n = io::count(got, &buffer);
+        held = take_in(image, &buffer, n, line, held, out);
     }
+    let n = finish(image, line, held, out);
+    print(out, n);
 }
 
-// One chunk is read and taken in.
-fn read_on(image: &mut [u8], line: &mut [u8], held: usize) -> Went
-    requires { ⌜ (length (now image) ≡ 2176) × (length (now line) ≡ 19) × (held ≤ 19) ⌝ }
-    ensures { λ r. ⌜ Within19 r ⌝ }
+// The first `n` bytes of a buffer are taken in step by step, and what each step answers is printed; how many bytes of the next line are held then.
+fn take_in(
+    image: &mut [u8],
+    buffer: &[u8],
+    n: usize,
+    line: &mut [u8],
+    held: usize,
+    out: &mut [u8],
+) -> usize
+    requires { ⌜ (length (now image) ≡ 2176) × (length (now line) ≡ 19) × (held ≤ 19) × (length (now out) ≡ 29397) × (n ≤ length (now buffer)) ⌝ }
+    ensures { λ h. ⌜ (h ≤ 19) × Took (now (image .entry)) (take held (now (line .entry))) (take n (now (buffer .entry))) n (now (image .exit)) (take h (now (line .exit))) ⌝ }
 {
-    let mut buffer = io::buffer();
-    let got = libc::read(STDIN_FILENO, &mut buffer);
-    if got <= 0 {
-        return Went::End;
+    let mut h = held;
+    let mut at = 0;
+    while at < n {
+        let s = step(image, buffer, n, at, line, h, out);
+        print(out, s.text);
+        h = s.held;
+        at += s.used;
     }
-    let n = io::count(got, &buffer);
-    Went::More(take_in(image, &buffer[..n], line, held))
+    h
 }
 
-// "A last line needs no newline."
-fn finish(image: &mut [u8], line: &[u8], held: usize)
-    requires { ⌜ (length (now image) ≡ 2176) × (held ≤ length (now line)) ⌝ }
+// The first `n` bytes of the output.
+fn print(out: &[u8], n: usize)
+    requires { ⌜ n ≤ length (now out) ⌝ }
 {
-    if 0 < held {
-        answer(image, &line[..held]);
-    }
+    io::write_all(STDOUT_FILENO, &out[..n]);
 }

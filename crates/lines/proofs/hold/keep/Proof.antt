@@ -1,13 +1,15 @@
 -- `keep` holds a byte behind the others while there is room.
 use native.Mathlib.Omega.{arith}
 use Prim.Native.Nat.{_<_}
-use Rattle.frames.proofs.LineLaws.{kept-full, kept-more}
+use Rattle.lines.proofs.LineLaws.{kept-full, kept-more}
 use borrow.Author.Needs.{needs}
-use Rattle.frames.proofs.lines.keep.Statement.{statement}
-use Rattle.frames.proofs.lines.keep.Tie as tie
+use Rattle.lines.proofs.hold.keep.Statement.{statement}
+use Rattle.lines.proofs.hold.keep.Tie as tie
 
 returns : tie.Need-returns
-returns c = rw (c .if1 .taken) (omega arith, kept-full (c .before .args .line .now) (c .before .args .byte) (c .before .pre .0))
+returns c =
+    let a = c .before .args in
+    (omega arith, kept-full (a .line .now) (a .held) (a .byte) (c .before .pre .0) (omega arith))
 
 slice-write-line : tie.Need-slice-write-line
 slice-write-line c = search needs

@@ -1,0 +1,3 @@
+-- Laws of lines and of turns.
+pub mod LineLaws
+pub mod TurnLaws
