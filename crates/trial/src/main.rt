@@ -1,54 +1,27 @@
-// Performs the stored calls on standard input, on three images, and prints each answer with the checksum of the bytes that the call was lent.
+// Reads the stored calls from standard input, has them performed on three images, and prints each answer with the checksum of the bytes that the call was lent.
 
-mod images;
-mod line;
-mod perform;
-mod print;
-mod sum;
+use replay::perform::Done;
+use replay::perform::step;
+use stored::images::Lengths;
+use stored::said::put_said;
 
-use crate::line::Parsed;
-use crate::line::parse;
-use crate::perform::perform;
-ghost use Prim.Native.Nat.{_≤_};
-ghost use lib.ListN.{length};
-ghost use Rattle.trial.specs.Room.{Held};
-
-// How long each image is.
-pub struct Lengths {
-    pub a: usize,
-    pub b: usize,
-    pub c: usize,
+// The answer of a call is printed; the lengths of the images after what was done.
+fn told(done: Done, lengths: Lengths) -> Lengths {
+    match done {
+        Done::Lengths(others) => others,
+        Done::Said(operation, answer, sum) => {
+            print(operation, answer, sum);
+            lengths
+        }
+        Done::Nothing => lengths,
+    }
 }
 
-// One line on the three images; any other text changes nothing.
-fn step(
-    text: &[u8],
-    lengths: Lengths,
-    a: &mut [u8],
-    b: &mut [u8],
-    c: &mut [u8],
-    out: &mut [u64],
-) -> Lengths
-    requires { ⌜ Held lengths (now a) (now b) (now c) ⌝ }
-    ensures { λ r. ⌜ Held r (now (a .exit)) (now (b .exit)) (now (c .exit)) ⌝ }
-{
-    let Parsed::Line(line) = parse(text) else {
-        return lengths;
-    };
-    let la = lengths.a;
-    let lb = lengths.b;
-    let lc = lengths.c;
-    let target = line.target;
-    if target == 0 {
-        let n = perform(line, &b[0..lb], &c[0..lc], a, la, out);
-        return Lengths { a: n, b: lb, c: lc };
-    }
-    if target == 1 {
-        let n = perform(line, &a[0..la], &c[0..lc], b, lb, out);
-        return Lengths { a: la, b: n, c: lc };
-    }
-    let n = perform(line, &a[0..la], &b[0..lb], c, lc, out);
-    Lengths { a: la, b: lb, c: n }
+// The line that answers a call, on standard output.
+fn print(operation: u64, answer: u64, sum: u64) {
+    let mut text = [10u8; 35];
+    put_said(&mut text, operation, answer, sum);
+    io::write_all(1, &text);
 }
 
 // Line after line. A proved loop has to end, and nothing says that the input does: the turns are counted down from a number that no run uses up.
@@ -61,7 +34,8 @@ fn run(a: &mut [u8], b: &mut [u8], c: &mut [u8], out: &mut [u64]) {
         if n < 30 {
             return;
         }
-        lengths = step(&text, lengths, a, b, c, out);
+        let done = step(&text, lengths, a, b, c, out);
+        lengths = told(done, lengths);
         turns -= 1;
     }
 }

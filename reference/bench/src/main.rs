@@ -1,16 +1,21 @@
 //! Times of the calls: a table in Markdown and a plot in SVG.
 //!
 //!     bench FOLDER [quick]
+//!     bench calls B LOAD FOLDER
 //!
-//! Writes FOLDER/bench.md and FOLDER/bench.svg. `quick` takes fewer rounds.
+//! The first writes FOLDER/bench.md and FOLDER/bench.svg; `quick` takes fewer rounds. The second
+//! is for `compare`: it names its calls, and times the one whose number comes on standard input,
+//! again and again; its buffers are files of FOLDER.
 
+mod lines;
 mod measure;
 mod plot;
 mod subject;
 
-use measure::{Effort, Setting, Times, CALLS, ON_HASHES};
+use measure::{Effort, Rounds, Setting, Times, Who, CALLS, ON_HASHES};
 use plot::{Panel, Series};
 use std::collections::BTreeMap;
+use std::fs::File;
 
 fn effort(b: u64, quick: bool) -> Effort {
     let (rounds, whole, batch) = match (b > 4096, quick) {
@@ -152,10 +157,31 @@ fn panels(
     panels
 }
 
+/// The first implementation makes the calls that it is told to.
+fn calls(setting: Setting, folder: &str) {
+    let size = effort(setting.b, true).batch;
+    let file = |number: usize| {
+        let mut open = File::options();
+        open.read(true).write(true).create(true).truncate(false);
+        open.open(format!("{folder}/{number}")).expect("a buffer")
+    };
+    let mut rounds = Rounds::new(setting, Who::First((0..4).map(file).collect()));
+    println!("{}", CALLS.map(|(name, _)| name).join("\t"));
+    for line in std::io::stdin().lines() {
+        let call = line.expect("input").parse().expect("a call's number");
+        println!("{}", rounds.alone(call, size).expect("a time"));
+    }
+}
+
 fn main() {
     let arguments: Vec<String> = std::env::args().skip(1).collect();
+    if let [word, b, load, folder] = &arguments[..] {
+        if let ("calls", Ok(b), Ok(load)) = (word.as_str(), b.parse(), load.parse()) {
+            return calls(Setting { b, load }, folder);
+        }
+    }
     let Some(folder) = arguments.first() else {
-        eprintln!("usage: bench FOLDER [quick]");
+        eprintln!("usage: bench FOLDER [quick] | calls B LOAD FOLDER");
         std::process::exit(2);
     };
     let mut results = Results {

@@ -5,7 +5,9 @@ use differential::Fast;
 use model::catalogue::Catalogue;
 use model::random::Random;
 use model::shape::Shape;
+use std::fs::File;
 use std::hint::black_box;
+use std::sync::LazyLock;
 use std::time::Instant;
 
 /// What is measured, with its unit.
@@ -45,6 +47,15 @@ impl Setting {
 
     pub fn members(self) -> usize {
         (28 * self.shape().fronts() * self.load / 100) as usize
+    }
+
+    /// How many freshes are timed in a row: one is short on a small image.
+    fn freshes(self) -> usize {
+        if self.b > 4096 {
+            1
+        } else {
+            16
+        }
     }
 
     fn buckets(self) -> usize {
@@ -134,51 +145,105 @@ pub fn sources(members: &[u64]) -> (&[u64], &[u64]) {
     (&members[..n], &members[n..2 * n])
 }
 
-fn subjects(setting: Setting, members: &[u64], start: &[u8]) -> Vec<Box<dyn Subject>> {
+/// Who is measured.
+pub enum Who {
+    All,
+    /// The C functions, or `fast` where they are not linked, on buffers in these files.
+    First(Vec<File>),
+}
+
+fn subjects(setting: Setting, who: &Who, members: &[u64], start: &[u8]) -> Vec<Box<dyn Subject>> {
     let n = members.len();
     let half = |members: &[u64]| filled(setting, members.iter().copied(), n).0;
     let (first, second) = sources(members);
     let halves = [half(first), half(second)];
-    vec![
-        #[cfg(feature = "capi")]
-        Box::new(Filter::new("capi", differential::Capi, start, &halves, n)),
-        Box::new(Filter::new("fast", Fast, start, &halves, n)),
-        Box::new(Map::new(members)),
-    ]
+    let (all, files): (bool, &[File]) = match who {
+        Who::All => (true, &[]),
+        Who::First(files) => (false, files),
+    };
+    let mut subjects: Vec<Box<dyn Subject>> = Vec::new();
+    #[cfg(feature = "capi")]
+    subjects.push(Box::new(Filter::new(
+        "capi",
+        differential::Capi,
+        start,
+        &halves,
+        n,
+        files,
+    )));
+    if all || subjects.is_empty() {
+        let fast = Filter::new("fast", Fast, start, &halves, n, files);
+        subjects.push(Box::new(fast));
+    }
+    if all {
+        subjects.push(Box::new(Map::new(members)));
+    }
+    subjects
+}
+
+/// The processor time of this thread in ns: what else runs on the machine is not in it.
+fn processor_time() -> f64 {
+    #[repr(C)]
+    struct Time {
+        seconds: i64,
+        ns: i64,
+    }
+    unsafe extern "C" {
+        fn clock_gettime(clock: i32, time: *mut Time) -> i32;
+    }
+    const CLOCK_THREAD_CPUTIME_ID: i32 = 3;
+    let mut time = Time { seconds: 0, ns: 0 };
+    assert_eq!(
+        unsafe { clock_gettime(CLOCK_THREAD_CPUTIME_ID, &mut time) },
+        0
+    );
+    time.seconds as f64 * 1e9 + time.ns as f64
+}
+
+/// Time since the first call, in ns.
+fn wall_time() -> f64 {
+    static START: LazyLock<Instant> = LazyLock::new(Instant::now);
+    START.elapsed().as_nanos() as f64
 }
 
 /// Runs a batch: its result and its time in ns.
-fn timed<T>(batch: impl FnOnce() -> T) -> (T, f64) {
-    let start = Instant::now();
+fn timed<T>(clock: fn() -> f64, batch: impl FnOnce() -> T) -> (T, f64) {
+    let start = clock();
     let result = black_box(batch());
-    (result, start.elapsed().as_nanos() as f64)
+    (result, clock() - start)
 }
 
 /// One call on one subject: a number that all subjects agree on, and ns in all.
-fn measure(subject: &mut dyn Subject, call: usize, batch: &Batch) -> Option<(u64, f64)> {
+fn measure(
+    subject: &mut dyn Subject,
+    call: usize,
+    batch: &Batch,
+    freshes: usize,
+    clock: fn() -> f64,
+) -> Option<(u64, f64)> {
     black_box(subject.ask(&batch.warm));
     let size = batch.hits.len() as u64;
     let (result, ns) = match call {
-        0 => timed(|| Some(subject.ask(&batch.hits))),
+        0 => timed(clock, || Some(subject.ask(&batch.hits))),
         // A few fingerprints are there by chance, and hits may have more copies.
-        1 => timed(|| Some(subject.ask(&batch.misses) / size)),
-        2 => timed(|| Some((subject.count(&batch.hits) >= size) as u64)),
+        1 => timed(clock, || Some(subject.ask(&batch.misses) / size)),
+        2 => timed(clock, || Some((subject.count(&batch.hits) >= size) as u64)),
         3 => {
-            let timed = timed(|| Some(subject.insert(&batch.new)));
+            let timed = timed(clock, || Some(subject.insert(&batch.new)));
             subject.delete(&batch.new_shuffled);
             subject.restore();
             timed
         }
         4 => {
             subject.insert(&batch.new);
-            let timed = timed(|| Some(subject.delete(&batch.new_shuffled)));
+            let timed = timed(clock, || Some(subject.delete(&batch.new_shuffled)));
             subject.restore();
             timed
         }
-        5 => timed(|| subject.page()),
-        6 => timed(|| subject.merge()),
-        7 => timed(|| subject.check()),
-        _ => timed(|| subject.fresh()),
+        5 => timed(clock, || subject.page()),
+        6 => timed(clock, || subject.merge()),
+        7 => timed(clock, || subject.check()),
+        _ => timed(clock, || (0..freshes).map(|_| subject.fresh()).last()?),
     };
     Some((result?, ns))
 }
@@ -188,45 +253,100 @@ fn median(mut values: Vec<f64>) -> Option<f64> {
     values.get(values.len() / 2).copied()
 }
 
-/// The medians of the first so many of `CALLS`. In a round every call is made by every subject in
-/// turn, and the turn starts with another subject each time; a first round is not counted.
+/// Subjects in one setting, measured a round at a time.
+pub struct Rounds {
+    setting: Setting,
+    random: Random,
+    members: Vec<u64>,
+    room: Vec<u8>,
+    subjects: Vec<Box<dyn Subject>>,
+    clock: fn() -> f64,
+    done: usize,
+}
+
+impl Rounds {
+    pub fn new(setting: Setting, who: Who) -> Rounds {
+        let mut random = Random::new(setting.b * 1000 + setting.load);
+        let any = std::iter::repeat_with(|| random.bits());
+        let (start, members) = filled(setting, any, setting.members());
+        let subjects = subjects(setting, &who, &members, &start);
+        Rounds {
+            setting,
+            random,
+            members,
+            room: start,
+            subjects,
+            clock: match who {
+                Who::All => wall_time,
+                Who::First(_) => processor_time,
+            },
+            done: 0,
+        }
+    }
+
+    /// A round of the first so many of `CALLS`, on hashes of its own. Takes by subject, call and ns
+    /// a unit.
+    pub fn round(&mut self, calls: usize, size: usize, mut take: impl FnMut(usize, usize, f64)) {
+        let batch = batch(&self.members, &mut self.room, size, &mut self.random);
+        for call in 0..calls {
+            self.call(call, &batch, |who, ns| take(who, call, ns));
+        }
+        self.done += 1;
+    }
+
+    /// One call by the first subject, on hashes of its own and on buffers that another process may
+    /// have written: ns a unit.
+    pub fn alone(&mut self, call: usize, size: usize) -> Option<f64> {
+        let batch = batch(&self.members, &mut self.room, size, &mut self.random);
+        self.subjects[0].restore_all();
+        let mut taken = None;
+        self.call(call, &batch, |_, ns| taken = Some(ns));
+        taken
+    }
+
+    /// A call by every subject in turn; the turn starts with another subject each round.
+    fn call(&mut self, call: usize, batch: &Batch, mut take: impl FnMut(usize, f64)) {
+        let mut agreed = None;
+        let freshes = self.setting.freshes();
+        let units = match call {
+            0..=2 => batch.hits.len(),
+            3 | 4 => batch.new.len(),
+            5 => self.members.len(),
+            6 => 2 * sources(&self.members).0.len(),
+            7 => self.setting.buckets(),
+            _ => freshes * self.setting.buckets(),
+        };
+        for turn in 0..self.subjects.len() {
+            let who = (self.done + turn) % self.subjects.len();
+            let subject = &mut *self.subjects[who];
+            let Some((result, ns)) = measure(subject, call, batch, freshes, self.clock) else {
+                continue;
+            };
+            assert_eq!(*agreed.get_or_insert(result), result, "{}", CALLS[call].0);
+            take(who, ns / units as f64);
+        }
+    }
+}
+
+/// The medians of the first so many of `CALLS`; a first round is not counted.
 pub fn run(setting: Setting, calls: usize, effort: Effort) -> Vec<Times> {
-    let mut random = Random::new(setting.b * 1000 + setting.load);
-    let any = std::iter::repeat_with(|| random.bits());
-    let (start, members) = filled(setting, any, setting.members());
-    let mut room = start.clone();
-    let mut subjects = subjects(setting, &members, &start);
-    let mut samples = vec![vec![Vec::new(); CALLS.len()]; subjects.len()];
+    let mut rounds = Rounds::new(setting, Who::All);
+    let mut samples = vec![vec![Vec::new(); CALLS.len()]; rounds.subjects.len()];
     for round in 0..=effort.rounds {
-        let batch = batch(&members, &mut room, effort.batch, &mut random);
         let calls = if round > effort.whole {
             calls.min(ON_HASHES)
         } else {
             calls
         };
-        for call in 0..calls {
-            let mut agreed = None;
-            let units = match call {
-                0..=2 => batch.hits.len(),
-                3 | 4 => batch.new.len(),
-                5 => members.len(),
-                6 => 2 * sources(&members).0.len(),
-                _ => setting.buckets(),
-            };
-            for turn in 0..subjects.len() {
-                let who = (round + turn) % subjects.len();
-                let Some((result, ns)) = measure(&mut *subjects[who], call, &batch) else {
-                    continue;
-                };
-                assert_eq!(*agreed.get_or_insert(result), result, "{}", CALLS[call].0);
-                if round > 0 {
-                    samples[who][call].push(ns / units as f64);
-                }
+        rounds.round(calls, effort.batch, |who, call, ns| {
+            if round > 0 {
+                samples[who][call].push(ns);
             }
-        }
+        });
     }
+    let members = rounds.members.len() as f64;
     let mut all = Vec::new();
-    for (subject, samples) in subjects.iter().zip(samples) {
+    for (subject, samples) in rounds.subjects.iter().zip(samples) {
         let mut ns = [None; CALLS.len()];
         for (median_of, values) in ns.iter_mut().zip(samples) {
             *median_of = median(values);
@@ -234,7 +354,7 @@ pub fn run(setting: Setting, calls: usize, effort: Effort) -> Vec<Times> {
         all.push(Times {
             name: subject.name(),
             ns,
-            bytes_a_member: subject.bytes() as f64 / members.len() as f64,
+            bytes_a_member: subject.bytes() as f64 / members,
         });
     }
     all

@@ -1,10 +1,11 @@
 //! What is timed: the implementations of the catalogue, and a hash map as a counting multiset.
 
+use crate::lines::Lines;
 use crate::measure::sources;
 use model::catalogue::Catalogue;
 use std::collections::HashMap;
+use std::fs::File;
 use std::hash::{BuildHasherDefault, Hasher};
-use std::ops::{Deref, DerefMut};
 
 /// One implementation with its own buffers. Each method does a whole batch, so that what picks
 /// the implementation is not in the time; each gives a number that all must agree on.
@@ -12,6 +13,8 @@ pub trait Subject {
     fn name(&self) -> &'static str;
     /// Takes the members as they were at the start again.
     fn restore(&mut self);
+    /// Takes all buffers as they were at the start, which another process may have written since.
+    fn restore_all(&mut self);
     /// How many are there.
     fn ask(&mut self, hashes: &[u64]) -> u64;
     /// The sum of the copies.
@@ -32,45 +35,12 @@ pub trait Subject {
     fn bytes(&self) -> usize;
 }
 
-/// Bytes that begin at a cache line: a bucket takes one line in every implementation's buffers.
-struct Lines {
-    bytes: Vec<u8>,
-    from: usize,
-    length: usize,
-}
-
-impl Lines {
-    fn of(image: &[u8]) -> Lines {
-        let bytes = vec![0; image.len() + 63];
-        let from = bytes.as_ptr().align_offset(64);
-        let mut lines = Lines {
-            bytes,
-            from,
-            length: image.len(),
-        };
-        lines.copy_from_slice(image);
-        lines
-    }
-}
-
-impl Deref for Lines {
-    type Target = [u8];
-    fn deref(&self) -> &[u8] {
-        &self.bytes[self.from..self.from + self.length]
-    }
-}
-
-impl DerefMut for Lines {
-    fn deref_mut(&mut self) -> &mut [u8] {
-        &mut self.bytes[self.from..self.from + self.length]
-    }
-}
-
 /// An implementation of the catalogue.
 pub struct Filter<C> {
     name: &'static str,
     catalogue: C,
     start: Vec<u8>,
+    start_halves: [Vec<u8>; 2],
     image: Lines,
     halves: [Lines; 2],
     target: Lines,
@@ -78,21 +48,28 @@ pub struct Filter<C> {
 }
 
 impl<C: Catalogue> Filter<C> {
-    /// With these members; `halves` are the two sources of the merge.
+    /// With these members; `halves` are the two sources of the merge, `files` hold the buffers
+    /// where they are shared.
     pub fn new(
         name: &'static str,
         catalogue: C,
         start: &[u8],
         halves: &[Vec<u8>; 2],
         members: usize,
+        files: &[File],
     ) -> Self {
+        let [first, second] = halves;
         Filter {
             name,
             catalogue,
             start: start.to_vec(),
-            image: Lines::of(start),
-            halves: halves.each_ref().map(|half| Lines::of(half)),
-            target: Lines::of(start),
+            start_halves: halves.clone(),
+            image: Lines::of(start, files.first()),
+            halves: [
+                Lines::of(first, files.get(1)),
+                Lines::of(second, files.get(2)),
+            ],
+            target: Lines::of(start, files.get(3)),
             out: vec![0; members],
         }
     }
@@ -109,6 +86,13 @@ impl<C: Catalogue> Subject for Filter<C> {
 
     fn restore(&mut self) {
         self.image.copy_from_slice(&self.start);
+    }
+
+    fn restore_all(&mut self) {
+        self.restore();
+        for (half, start) in self.halves.iter_mut().zip(&self.start_halves) {
+            half.copy_from_slice(start);
+        }
     }
 
     fn ask(&mut self, hashes: &[u64]) -> u64 {
@@ -213,6 +197,8 @@ impl Subject for Map {
     }
 
     fn restore(&mut self) {}
+
+    fn restore_all(&mut self) {}
 
     fn ask(&mut self, hashes: &[u64]) -> u64 {
         let found = |hash: &&u64| self.counts.contains_key(hash);

@@ -1,14 +1,13 @@
--- `run` keeps each image within its room; the turns left are the measure.
+-- `run` keeps its buffers; the turns left are the measure.
 use mathlib.Core.Path.{_≡_}
 use lib.ListN.{length}
-use Rattle.trial.specs.Room.{Held}
 use borrow.Author.Needs.{needs}
 use Rattle.trial.proofs.run.Statement.{statement}
 use Rattle.trial.proofs.run.Tie as tie
 
 abbrev Inv-loop : tie.InvT-loop
 Inv-loop a₀ b₀ c₀ out₀ text₀ lengths₀ turns₀ a b c out text lengths turns =
-    Held lengths a b c × (length a ≡ length a₀) × (length b ≡ length b₀) × (length c ≡ length c₀) × (length out ≡ length out₀) × (30 ≡ length text)
+    (length a ≡ length a₀) × (length b ≡ length b₀) × (length c ≡ length c₀) × (length out ≡ length out₀) × (30 ≡ length text)
 
 abbrev μ-loop : tie.MeasureT-loop
 μ-loop a₀ b₀ c₀ out₀ text₀ lengths₀ turns₀ a b c out text lengths turns = turns
@@ -42,6 +41,9 @@ slice-aggregate-step c = search needs
 
 step-requires : tie.Need-step-requires Inv-loop μ-loop
 step-requires c κs = search needs
+
+told-requires : tie.Need-told-requires Inv-loop μ-loop
+told-requires c κs = search needs
 
 sub-turns : tie.Need-sub-turns Inv-loop μ-loop
 sub-turns c = search needs
@@ -83,6 +85,7 @@ run-spec =
     returns
     slice-aggregate-step
     step-requires
+    told-requires
     sub-turns
     loop-less
     loop-again

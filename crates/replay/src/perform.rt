@@ -1,0 +1,142 @@
+// A line performed on the image that it writes or reads, and the eight calls.
+
+use capi::bcf_ask;
+use capi::bcf_check;
+use capi::bcf_count;
+use capi::bcf_delete;
+use capi::bcf_fresh;
+use capi::bcf_insert;
+use capi::bcf_merge;
+use capi::bcf_page;
+use stored::images::Lengths;
+use stored::images::copied;
+use stored::images::length_of;
+use stored::images::picked;
+use stored::images::poke;
+use stored::images::with_length;
+use stored::images::zeroed;
+use stored::line::Line;
+use stored::line::Parsed;
+use stored::line::parse;
+use stored::sum::of_image;
+use stored::sum::of_merge;
+use stored::sum::of_page;
+
+// What a line did: other lengths of the images; a call's operation, its answer and the checksum of the bytes that it was lent; or neither.
+pub enum Done {
+    Lengths(Lengths),
+    Said(u64, u64, u64),
+    Nothing,
+}
+
+// One line on the three images; any other text does nothing.
+pub fn step(
+    text: &[u8],
+    lengths: Lengths,
+    a: &mut [u8],
+    b: &mut [u8],
+    c: &mut [u8],
+    out: &mut [u64],
+) -> Done {
+    let Parsed::Line(line) = parse(text) else {
+        return Done::Nothing;
+    };
+    let target = line.target;
+    match target {
+        0 => perform(line, lengths, b, c, a, out),
+        1 => perform(line, lengths, a, c, b, out),
+        _ => perform(line, lengths, a, b, c, out),
+    }
+}
+
+// A line on its image, which begins `buffer`; the two others begin `lower` and `upper`.
+fn perform<'a>(
+    line: Line,
+    lengths: Lengths,
+    lower: &'a [u8],
+    upper: &'a [u8],
+    buffer: &mut [u8],
+    out: &mut [u64],
+) -> Done {
+    let operation = line.operation;
+    let target = line.target;
+    let n = length_of(lengths, target);
+    if operation == 0 {
+        return Done::Lengths(with_length(lengths, target, zeroed(buffer, n, line.q)));
+    }
+    let first = picked(lower, upper, lengths, line.first, target);
+    if operation == 10 {
+        return Done::Lengths(with_length(lengths, target, copied(first, buffer, n)));
+    }
+    if buffer.len() < n {
+        return Done::Nothing;
+    }
+    let image = &mut buffer[0..n];
+    if operation == 8 {
+        return merge(
+            first,
+            picked(lower, upper, lengths, line.second, target),
+            image,
+        );
+    }
+    within(operation, image, line.p, line.q, out)
+}
+
+// A line on one image, which keeps its length.
+fn within(operation: u64, image: &mut [u8], p: u64, q: usize, out: &mut [u64]) -> Done {
+    if operation == 9 {
+        poke(image, q, p);
+        return Done::Nothing;
+    }
+    if operation == 5 {
+        return page(image, p, out, q);
+    }
+    call(operation, image, p)
+}
+
+// The calls on one image: insert, delete, ask, count, fresh and check. There is no other operation.
+fn call(operation: u64, image: &mut [u8], hash: u64) -> Done {
+    if 7 < operation {
+        return Done::Nothing;
+    }
+    let answer = answer_of(operation, image, hash);
+    Done::Said(operation, answer, of_image(image))
+}
+
+// What it gives: 7, a check, is the last that is left.
+fn answer_of(operation: u64, image: &mut [u8], hash: u64) -> u64 {
+    match operation {
+        1 => bcf_insert(image, hash),
+        2 => bcf_delete(image, hash),
+        3 => bcf_ask(image, hash),
+        4 => bcf_count(image, hash),
+        6 => bcf_fresh(image),
+        _ => bcf_check(image),
+    }
+}
+
+// A page into the first q entries of `out`, if there are so many.
+fn page(image: &[u8], from: u64, out: &mut [u64], q: usize) -> Done {
+    if out.len() < q {
+        return Done::Nothing;
+    }
+    let out = &mut out[0..q];
+    fill(out);
+    let answer = bcf_page(image, from, out);
+    Done::Said(5, answer, of_page(image, out))
+}
+
+// Entry i becomes 2^64 - 1 - i.
+fn fill(out: &mut [u64]) {
+    let mut i = 0;
+    while i < out.len() {
+        out[i] = u64::MAX - (i as u64);
+        i += 1;
+    }
+}
+
+// Two images into a third.
+fn merge<'a>(first: &'a [u8], second: &'a [u8], target: &mut [u8]) -> Done {
+    let answer = bcf_merge(first, second, target);
+    Done::Said(8, answer, of_merge(first, second, target))
+}

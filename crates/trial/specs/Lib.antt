@@ -1,2 +1,0 @@
-pub mod Checksums
-pub mod Room
