@@ -1,5 +1,3 @@
--- Laws of what stays, what leaves and what is pushed behind.
+-- Laws of the passes of a merge.
 pub mod MergeSteps
-pub mod PushLaws
-pub mod SettleLaws
-pub mod SpillLaws
+pub mod JoinLaws

@@ -1,12 +1,11 @@
 -- What the passes of a merge ask and say: images that check accepts, and a target that took what was put into it.
 use mathlib.Core.Path.{_≡_}
 use Prim.Native.Nat.{ℕ}
-use mathlib.Core.Bool.{Bool, true, false}
 use mathlib.Core.List.{List}
 use mathlib.Core.Option.{some}
 use lib.ListN.{length}
 use Rattle.crumbmap.specs.Layouts.{layout1}
-use Rattle.machine.specs.Results.{Result, accepted, refused, andThen}
+use Rattle.machine.specs.Results.{Result, accepted, andThen}
 use Rattle.machine.specs.Images.{sizeOf}
 use Rattle.machine.specs.Checks.{checkSized}
 use Rattle.machine.specs.Merges.{insertAll}
@@ -19,11 +18,6 @@ SizedAs B img = sizeOf (length img) ≡ some B
 pub record Checked (B : ℕ) (img : List ℕ) : Type 0 where
   pub size : SizedAs B img
   pub passed : checkSized layout1 B img ≡ accepted tt
-
--- a target that took all, with its bytes, or was full on the way
-abbrev pub reached : Bool → List ℕ → Result (List ℕ)
-reached true img = accepted img
-reached false img = refused 4 0
 
 -- front bucket f of a merge: the members of a, then those of b
 unfoldable pub bothInserted : ℕ → ℕ → List ℕ → List ℕ → List ℕ → Result (List ℕ)

@@ -2,47 +2,39 @@
 // "Where just one of the two front buckets has members, its 64 bytes serve as the merged front bucket." Where both have, what those
 // inserts leave in front is written once, and what they send behind goes there in their order. The select table is copied once a call, and lent.
 
-use crate::settle::settle;
 use answers::Done;
 use answers::Refusal;
 use crumbmap::Front;
-use crumbmap::Overflow;
-use crumbmap::map::first_of;
-use crumbmap::map::second_of;
 use image::Size;
-use image::back::insert_back_at;
 use image::fresh::clear_all;
 use image::fresh::fresh;
-use image::front::fill_front_at;
 use image::front::whichever;
 use image::front::write_front_at;
-use image::place::back_bucket;
 use image::place::bucket;
 use image::place::size_of;
-use listing::lists::merge_into;
 use listing::members::list_members;
-use minifilter::find::count_back;
 use minifilter::find::count_front;
-use minifilter::find::rank_back;
+use spill::fill::fill_both;
+use spill::fill::in_front;
+use spill::push::push_all;
 use validation::check::check_sized;
 use words::select::entries;
 ghost use mathlib.Core.Path.{_≡_};
 ghost use Prim.Native.Nat.{_+_, _*_, _<_, _≤_};
 ghost use mathlib.Core.List.{[]};
-ghost use lib.ListN.{length, take};
+ghost use lib.ListN.{length};
 ghost use lib.Dec.{T};
-ghost use Rattle.multiset.specs.Multisets.{added, ascending, Below};
+ghost use Rattle.multiset.specs.Multisets.{ascending, Below};
 ghost use Rattle.crumbmap.specs.Layouts.{layout1, keys as allKeys, fronts};
 ghost use Rattle.words.specs.Select.{selectTable};
-ghost use Rattle.buckets.specs.Buckets.{FrontList};
 ghost use Rattle.machine.specs.Results.{refused, andThen};
-ghost use Rattle.machine.specs.Images.{emptyImage, putFront, putBack};
+ghost use Rattle.machine.specs.Images.{emptyImage};
 ghost use Rattle.machine.specs.Merges.{insertAll, mergeFrom, mergeSized};
 ghost use Rattle.answers.specs.Answers.{Fills, Merges};
-ghost use Rattle.image.specs.ImageReads.{inFront, inBack, BackRead};
+ghost use Rattle.image.specs.ImageReads.{inFront};
 ghost use Rattle.listing.specs.Listings.{behindIn, BehindRead};
-ghost use Rattle.merging.specs.Merging.{SizedAs, Checked, reached, bothInserted};
-ghost use Rattle.merging.specs.Spills.{stays, goes, pushAt, pushAll};
+ghost use Rattle.merging.specs.Merging.{SizedAs, Checked, bothInserted};
+ghost use Rattle.spill.specs.Spills.{reached, pushAll};
 
 // The members of two images into a third.
 pub fn merge<'a>(first: &'a [u8], second: &'a [u8], target: &mut [u8]) -> Done
@@ -221,77 +213,4 @@ fn join(table: &[u8], a: &[u32], b: &[u32], size: usize, front: Front, target: &
         return push_all(table, &over[..gone], size, front, target);
     }
     false
-}
-
-// How many of n ascending keys an empty front bucket keeps.
-fn in_front(n: usize) -> usize
-    ensures { λ r. ⌜ (r ≤ n) × (r ≤ 28) × (r < 28 → n ≤ r) ⌝ }
-{
-    if n < 28 {
-        return n;
-    }
-    28
-}
-
-// A front bucket takes the keys of `a` and after them those of `b`, whatever its bytes were; those that leave it go into the start of
-// `over`; how many.
-fn fill_both(a: &[u32], b: &[u32], front: Front, over: &mut [u32], target: &mut [u8]) -> usize
-    requires { ⌜ FrontList layout1 (now a) × T (ascending (now b)) × Below (allKeys layout1) (now b) × (length (now b) ≤ 72)
-        × (length (now over) ≡ 72) × (64 * front .0 + 64 ≤ length (now target)) ⌝ }
-    ensures { λ r. ⌜ (r ≤ 72) × (take r (now (over .exit)) ≡ goes 28 (now (b .entry)) (now (a .entry)))
-        × (now (target .exit) ≡ putFront layout1 (front .0) (stays 28 (now (b .entry)) (now (a .entry))) (now (target .entry))) ⌝ }
-{
-    let mut keys = [0u32; 28];
-    let split = settle(a, b, over);
-    merge_into(&a[..split.kept], &b[..split.taken], &mut keys);
-    fill_front_at(target, front, &keys[..split.kept + split.taken]);
-    split.gone
-}
-
-// Keys behind a front bucket, one after the other, until both backyard buckets are full.
-fn push_all(table: &[u8], keys: &[u32], size: usize, front: Front, target: &mut [u8]) -> bool
-    requires { ⌜ (now table ≡ selectTable) × BehindRead size (front .0) (now target) × Below (allKeys layout1) (now keys) ⌝ }
-    ensures { λ r. ⌜ (reached r (now (target .exit)) ≡ pushAll layout1 size (front .0) (now (keys .entry)) (now (target .entry)))
-        × BehindRead size (front .0) (now (target .exit)) ⌝ }
-{
-    let mut i = 0;
-    while i < keys.len() {
-        if !push(table, target, size, front, keys[i]) {
-            return false;
-        }
-        i += 1;
-    }
-    true
-}
-
-// A key behind a front bucket: "to First(f) if n0 < n1, else to Second(f)". Where n0 is not below n1, both hold 22 if b1 does.
-fn push(table: &[u8], image: &mut [u8], size: usize, front: Front, key: u32) -> bool
-    requires { ⌜ (now table ≡ selectTable) × BehindRead size (front .0) (now image) × (key < allKeys layout1) ⌝ }
-    ensures { λ r. ⌜ (reached r (now (image .exit)) ≡ pushAt layout1 size (front .0) key (now (image .entry)))
-        × BehindRead size (front .0) (now (image .exit)) ⌝ }
-{
-    let first = first_of(front, size);
-    let second = second_of(front, size);
-    let n0 = count_back(back_bucket(image, size, first.bucket));
-    let n1 = count_back(back_bucket(image, size, second.bucket));
-    if n0 < n1 {
-        put_behind(table, image, size, first, key);
-        return true;
-    }
-    if n1 == 22 {
-        return false;
-    }
-    put_behind(table, image, size, second, key);
-    true
-}
-
-// A key joins a sound backyard bucket that has a free slot, with the crumb that it carries there.
-fn put_behind(table: &[u8], image: &mut [u8], size: usize, way: Overflow, key: u32)
-    requires { ⌜ (now table ≡ selectTable) × BackRead size (way .bucket .0) (now image) × (length (inBack size (way .bucket .0) (now image)) < 22) × (way .crumb < 16) × (key < allKeys layout1) ⌝ }
-    ensures { λ _. ⌜ now (image .exit) ≡ putBack layout1 size (way .bucket .0)
-        (added (key * 16 + way .crumb) (inBack size (way .bucket .0) (now (image .entry)))) (now (image .entry)) ⌝ }
-{
-    let member = key * 16 + way.crumb;
-    let slot = rank_back(table, back_bucket(image, size, way.bucket), member);
-    insert_back_at(image, size, way.bucket, slot, member);
 }

@@ -10,7 +10,7 @@ use Rattle.crumbmap.specs.Layouts.{layout1, keys as allKeys}
 use Rattle.image.specs.ImageReads.{inFront}
 use Rattle.listing.specs.Listings.{membersIn, MembersRead}
 use Rattle.validation.specs.Passes.{AllRead}
-use Rattle.merging.specs.Spills.{pushAll}
+use Rattle.spill.specs.Spills.{pushAll}
 use Rattle.machine.proofs.Invariant.{Good}
 use Rattle.listing.proofs.ListingLaws.{behind-few, length-members}
 use Rattle.merging.proofs.MergeSteps.{good-of, read-of, members-read, members-fit, members-split, part-listed}

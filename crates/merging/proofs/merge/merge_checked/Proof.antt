@@ -4,8 +4,10 @@ use lib.ListN.{length}
 use Rattle.crumbmap.specs.Layouts.{layout1, fronts}
 use Rattle.machine.specs.Images.{emptyImage}
 use Rattle.machine.specs.Merges.{mergeFrom}
-use Rattle.merging.specs.Merging.{SizedAs, reached}
-use Rattle.merging.proofs.MergeSteps.{fresh-sized, reached-all, reached-full}
+use Rattle.merging.specs.Merging.{SizedAs}
+use Rattle.spill.specs.Spills.{reached}
+use Rattle.merging.proofs.MergeSteps.{fresh-sized}
+use Rattle.spill.proofs.SpillSteps.{reached-all, reached-full}
 use borrow.Author.Needs.{needs}
 use Rattle.merging.proofs.merge.merge_checked.Statement.{statement}
 use Rattle.merging.proofs.merge.merge_checked.Tie as tie

@@ -17,7 +17,8 @@ use Rattle.machine.proofs.ImageLaws.{sizeOf-some}
 use Rattle.listing.proofs.ListingLaws.{members-at, members-range}
 use Rattle.machine.proofs.Invariant.{Good}
 use Rattle.machine.proofs.MergeLaws.{empty-good, empty-total}
-use Rattle.merging.proofs.MergeSteps.{checked-of, good-of, read-of, members-read, Untouched, untouched-front, both-good, reached-all, then-on, then-full, merge-on, merge-end}
+use Rattle.merging.proofs.MergeSteps.{checked-of, good-of, read-of, members-read, Untouched, untouched-front, both-good, merge-on, merge-end}
+use Rattle.spill.proofs.SpillSteps.{reached-all, then-on, then-full}
 use Rattle.merging.proofs.merge.merge_fronts.Statement.{statement}
 use Rattle.merging.proofs.merge.merge_fronts.Tie as tie
 

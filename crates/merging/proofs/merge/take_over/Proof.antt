@@ -5,14 +5,16 @@ use Rattle.machine.specs.Results.{andThen}
 use Rattle.machine.specs.Images.{put}
 use Rattle.listing.specs.Listings.{behindIn, BehindRead}
 use Rattle.validation.specs.Passes.{AllRead}
-use Rattle.merging.specs.Merging.{reached, bothInserted}
+use Rattle.spill.specs.Spills.{reached}
+use Rattle.merging.specs.Merging.{bothInserted}
 use Rattle.image.specs.ImageReads.{served}
-use Rattle.merging.specs.Spills.{pushAll}
+use Rattle.spill.specs.Spills.{pushAll}
 use Rattle.machine.proofs.ImageLaws.{front-inside}
 use Rattle.machine.proofs.Invariant.{Good}
 use Rattle.machine.proofs.Changes.{good-length}
-use Rattle.merging.proofs.MergeSteps.{good-of, read-of, behind-read, then-on, then-full}
-use Rattle.merging.proofs.PushLaws.{front-taken}
+use Rattle.merging.proofs.MergeSteps.{good-of, read-of, behind-read}
+use Rattle.spill.proofs.SpillSteps.{then-on, then-full}
+use Rattle.merging.proofs.JoinLaws.{front-taken}
 use borrow.Author.Needs.{needs}
 use Rattle.merging.proofs.merge.take_over.Statement.{statement}
 use Rattle.merging.proofs.merge.take_over.Tie as tie

@@ -22,14 +22,14 @@ use Rattle.machine.specs.Results.{Result, accepted, refused, andThen}
 use Rattle.machine.specs.Images.{lengthOf, put, frontAt, backAt, putFront, putBack}
 use Rattle.machine.specs.Machine.{Change, insertAt}
 use Rattle.machine.specs.Merges.{insertAll}
-use Rattle.merging.specs.Spills.{stays, goes, pushAt, pushAll}
+use Rattle.spill.specs.Spills.{stays, goes, pushAt, pushAll}
 use Rattle.machine.proofs.ImageLaws.{back-inside}
 use Rattle.machine.proofs.Invariant.{Good, frontView}
 use Rattle.machine.proofs.Overflow.{held, read-held, held-list}
 use Rattle.machine.proofs.Members.{largest-le, cond-choice, front-added, back-added}
 use Rattle.machine.proofs.Changes.{good-length, length-putFront, frontAt-putFront, backAt-putFront, frontAt-putBack}
 use Rattle.machine.proofs.InsertLaws.{Inserted, took, stuck, insert-keeps}
-use Rattle.merging.proofs.MergeSteps.{ascending-append, front-twice}
+use Rattle.spill.proofs.SpillSteps.{ascending-append, front-twice}
 
 -- ---- what stays and what goes, key by key
 

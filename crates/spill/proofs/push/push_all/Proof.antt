@@ -9,12 +9,12 @@ use borrow.Author.Tests.{not-true, not-false}
 use Rattle.crumbmap.specs.Layouts.{layout1, keys as allKeys}
 use Rattle.machine.specs.Results.{andThen}
 use Rattle.listing.specs.Listings.{BehindRead}
-use Rattle.merging.specs.Spills.{pushAt, pushAll}
+use Rattle.spill.specs.Spills.{pushAt, pushAll}
 use Rattle.listing.proofs.MergedLists.{below-at}
-use Rattle.merging.proofs.MergeSteps.{then-on, then-full}
-use Rattle.merging.proofs.PushLaws.{pushes-next}
-use Rattle.merging.proofs.merge.push_all.Statement.{statement}
-use Rattle.merging.proofs.merge.push_all.Tie as tie
+use Rattle.spill.proofs.SpillSteps.{then-on, then-full}
+use Rattle.spill.proofs.PushLaws.{pushes-next}
+use Rattle.spill.proofs.push.push_all.Statement.{statement}
+use Rattle.spill.proofs.push.push_all.Tie as tie
 
 abbrev Inv-loop : tie.InvT-loop
 Inv-loop table keys size front target₀ i₀ target i = (i ≤ length keys) × (length target ≡ length target₀) × BehindRead size (front .0) target × (pushAll layout1 size (front .0) keys target₀ ≡ pushAll layout1 size (front .0) (drop i keys) target)

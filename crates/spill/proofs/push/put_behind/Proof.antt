@@ -1,8 +1,8 @@
--- `merging::merge::put_behind` meets its contract: the rank by the select table is the slot of the member.
+-- `spill::push::put_behind` meets its contract: the rank by the select table is the slot of the member.
 use native.Mathlib.Omega.{arith}
 use borrow.Author.Needs.{needs}
-use Rattle.merging.proofs.merge.put_behind.Statement.{statement}
-use Rattle.merging.proofs.merge.put_behind.Tie as tie
+use Rattle.spill.proofs.push.put_behind.Statement.{statement}
+use Rattle.spill.proofs.push.put_behind.Tie as tie
 
 mul-member : tie.Need-mul-member
 mul-member c = search needs

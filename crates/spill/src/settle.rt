@@ -6,7 +6,7 @@ ghost use Prim.Native.Nat.{_≤_};
 ghost use lib.ListN.{length, take};
 ghost use lib.Dec.{T, ltb};
 ghost use Rattle.multiset.specs.Multisets.{ascending, largest};
-ghost use Rattle.merging.specs.Spills.{Settled};
+ghost use Rattle.spill.specs.Spills.{Settled};
 
 // The keys of `b` put in after those of `a`: what stays is the start of either, what leaves goes into the start of `over`.
 pub(crate) fn settle(a: &[u32], b: &[u32], over: &mut [u32]) -> Split

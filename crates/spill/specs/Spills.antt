@@ -1,7 +1,7 @@
 -- What a front bucket keeps, and what leaves it for the backyard, when keys are put in one after the other.
 use mathlib.Core.Path.{_≡_}
 use Prim.Native.Nat.{ℕ, _+_, _*_, _≤_}
-use mathlib.Core.Bool.{Bool, cond, _&&_}
+use mathlib.Core.Bool.{Bool, cond, _&&_, true, false}
 use mathlib.Core.List.{List, [], _∷_}
 use lib.ListN.{length, take}
 use lib.Dec.{ltb, eqb}
@@ -12,7 +12,7 @@ use Rattle.machine.specs.Results.{Result, accepted, refused, andThen}
 use Rattle.machine.specs.Images.{putBack}
 use Rattle.machine.specs.Bags.{addedAll}
 use Rattle.machine.specs.Machine.{backyard}
-use Rattle.merging.specs.declared.Split.{Split}
+use Rattle.spill.specs.declared.Split.{Split}
 
 -- the front list ws of n slots after keys were put in, one after the other
 unfoldable pub stays : ℕ → List ℕ → List ℕ → List ℕ
@@ -48,3 +48,8 @@ pub record Settled (a b : List ℕ) (r : Split) (over : List ℕ) : Type 0 where
   pub gone : r .gone ≤ 72
   pub front : addedAll (take (r .kept) a) (take (r .taken) b) ≡ stays 28 b a
   pub leaves : take (r .gone) over ≡ goes 28 b a
+
+-- a target that took all, with its bytes, or was full on the way
+abbrev pub reached : Bool → List ℕ → Result (List ℕ)
+reached true img = accepted img
+reached false img = refused 4 0

@@ -10,9 +10,9 @@ use Rattle.crumbmap.specs.CrumbMap.{firstBucket, secondBucket}
 use Rattle.crumbmap.specs.declared.Overflow.{Overflow}
 use Rattle.image.specs.ImageReads.{inBack, BothHold}
 use Rattle.image.proofs.ImageReadLaws.{chosen-way, room-first, room-second, room-left}
-use Rattle.merging.proofs.PushLaws.{push-stuck, push-to, push-keeps}
-use Rattle.merging.proofs.merge.push.Statement.{statement}
-use Rattle.merging.proofs.merge.push.Tie as tie
+use Rattle.spill.proofs.PushLaws.{push-stuck, push-to, push-keeps}
+use Rattle.spill.proofs.push.push.Statement.{statement}
+use Rattle.spill.proofs.push.push.Tie as tie
 
 first-of-requires : tie.Need-first-of-requires
 first-of-requires c κs = search needs

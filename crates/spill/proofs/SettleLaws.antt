@@ -15,9 +15,9 @@ use Rattle.multiset.specs.Multisets.{added, removed, copies, largest, ascending
 use Rattle.multiset.proofs.MultisetLaws.{hit-same, hit-other, hit-equal, copies-cons, copies-append, copies-added, copies-removed, largest-max, largest-added, removed-added, head-least, ascending-tail, ascending-cons, ascending-added, ascending-removed, ascending-unique}
 use Rattle.machine.specs.Bags.{addedAll}
 use Rattle.machine.proofs.BagLaws.{copies-addedAll, length-addedAll, ascending-addedAll}
-use Rattle.merging.specs.Spills.{stays, goes, Settled}
+use Rattle.spill.specs.Spills.{stays, goes, Settled}
 use Rattle.listing.proofs.MergedLists.{addedAll-nil}
-use Rattle.merging.proofs.SpillLaws.{copies-one, largest-is, largest-last, stays-room, stays-full, goes-room, goes-full, stays-append, goes-append}
+use Rattle.spill.proofs.SpillLaws.{copies-one, largest-is, largest-last, stays-room, stays-full, goes-room, goes-full, stays-append, goes-append}
 
 -- ---- the first members of an ascending list
 

@@ -4,9 +4,9 @@ use Prim.Native.Nat.{_+_, _-_, _<_}
 use native.Mathlib.Omega.{arith}
 use lib.ListN.{length, getD, set}
 use borrow.Author.Needs.{needs}
-use Rattle.merging.proofs.SettleLaws.{Settling, settling-start, settling-room, settling-way, settling-stop, settling-end, way-kept}
-use Rattle.merging.proofs.settle.settle.Statement.{statement}
-use Rattle.merging.proofs.settle.settle.Tie as tie
+use Rattle.spill.proofs.SettleLaws.{Settling, settling-start, settling-room, settling-way, settling-stop, settling-end, way-kept}
+use Rattle.spill.proofs.settle.settle.Statement.{statement}
+use Rattle.spill.proofs.settle.settle.Tie as tie
 
 abbrev Inv-loop : tie.InvT-loop
 Inv-loop a b over₀ kept₀ taken₀ gone₀ i₀ over kept taken gone i = Settling a b over kept taken gone i

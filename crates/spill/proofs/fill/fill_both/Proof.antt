@@ -6,11 +6,11 @@ use lib.ListN.{take}
 use lib.Seq.{length-take-le}
 use borrow.Author.Needs.{needs}
 use Rattle.crumbmap.specs.Layouts.{layout1}
-use Rattle.merging.specs.Spills.{stays}
-use Rattle.merging.proofs.SpillLaws.{stays-list}
-use Rattle.merging.proofs.PushLaws.{settled-mergeable, settled-front}
-use Rattle.merging.proofs.merge.fill_both.Statement.{statement}
-use Rattle.merging.proofs.merge.fill_both.Tie as tie
+use Rattle.spill.specs.Spills.{stays}
+use Rattle.spill.proofs.SpillLaws.{stays-list}
+use Rattle.spill.proofs.PushLaws.{settled-mergeable, settled-front}
+use Rattle.spill.proofs.fill.fill_both.Statement.{statement}
+use Rattle.spill.proofs.fill.fill_both.Tie as tie
 
 settle-requires : tie.Need-settle-requires
 settle-requires c κs = search needs

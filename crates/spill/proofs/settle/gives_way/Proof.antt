@@ -1,8 +1,8 @@
 -- The last of the first `kept` is the largest of them.
 use borrow.Author.Needs.{needs}
-use Rattle.merging.proofs.SettleLaws.{way-none, way-last}
-use Rattle.merging.proofs.settle.gives_way.Statement.{statement}
-use Rattle.merging.proofs.settle.gives_way.Tie as tie
+use Rattle.spill.proofs.SettleLaws.{way-none, way-last}
+use Rattle.spill.proofs.settle.gives_way.Statement.{statement}
+use Rattle.spill.proofs.settle.gives_way.Tie as tie
 
 returns : tie.Need-returns
 returns c = let a = c .before .args in way-none (a .kept) (a .key) (a .a .now) (c .if1 .taken)

@@ -1,0 +1,2 @@
+-- What a front bucket keeps, and what leaves it.
+pub mod Spills
