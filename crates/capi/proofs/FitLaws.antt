@@ -20,8 +20,7 @@ use Rattle.buckets.specs.Buckets.{carrying, frontMembers, backMembers}
 use Rattle.machine.specs.Results.{Result, accepted, refused, andThen, orUnsound, orRefused}
 use Rattle.machine.specs.Images.{sized, sizeOf, frontAt, backAt, bucketAt}
 use Rattle.machine.specs.Bags.{has, fromFirst}
-use Rattle.machine.specs.Machine.{Place, nowhere, front, first, second, changed, asked, counted, backyard, overflow}
-use Rattle.machine.specs.Machine.{insertAt, takeOut, refill, deleteAt, askAt, countAt, membersAt}
+use Rattle.machine.specs.Machine.{Place, nowhere, front, first, second, changed, asked, counted, backyard, overflow, insertAt, takeOut, refill, deleteAt, askAt, countAt, membersAt}
 use Rattle.machine.specs.Pages.{Run, runFrom, pageFrom}
 use Rattle.machine.specs.Checks.{orLater, unsoundFront, unsoundBack, bucketInTurn, early, checkSized}
 use Rattle.machine.specs.Merges.{insertAll, mergeFrom, mergeSized}

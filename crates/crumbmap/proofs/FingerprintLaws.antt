@@ -1,19 +1,7 @@
 -- Every number of a fingerprint is in range, and a fingerprint settles its front bucket and key.
-use mathlib.Core.Path.{_≡_, refl, sym, _∙_, ap}
-use Prim.Native.Nat.{ℕ, suc, _+_, _*_, _/_, _%_, _^_, _≤_, _<_}
-use native.Mathlib.Nat.{
-  div-lt-iff-lt-mul,
-  mul-lt-mul-of-pos-right,
-  mul-le-mul-right,
-  mul-comm,
-  mod-lt,
-  mul-add-div-right,
-  mul-add-mod-self-right,
-  div-eq-of-lt,
-  mod-eq-of-lt,
-  add-zero,
-  suc-mul,
-}
+use mathlib.Core.Path.{_≡_, sym, _∙_, ap}
+use Prim.Native.Nat.{ℕ, _+_, _*_, _/_, _%_, _^_, _<_}
+use native.Mathlib.Nat.{div-lt-iff-lt-mul, mul-lt-mul-of-pos-right, mul-le-mul-right, mul-comm, mod-lt, mul-add-div-right, mul-add-mod-self-right, div-eq-of-lt, mod-eq-of-lt, add-zero, suc-mul}
 use native.Mathlib.Omega.{arith}
 use lib.Pow.{pow-pos}
 use Rattle.crumbmap.specs.Layouts.{Layout, tags, keys, fronts}

@@ -21,10 +21,9 @@ use Rattle.machine.specs.Images.{sizeOf}
 use Rattle.machine.specs.Machine.{full, insertAt, deleteAt, Place, nowhere}
 use Rattle.machine.specs.Pages.{pageFrom}
 use Rattle.machine.specs.Merges.{mergeSized}
-use Rattle.machine.specs.Calls.{freshOf, insertOf, deleteOf, askOf, countOf, pageOf, mergeOf, written, imageOf}
+use Rattle.machine.specs.Calls.{freshOf, insertOf, deleteOf, askOf, countOf, pageOf, mergeOf, written}
 use Rattle.machine.proofs.ImageLaws.{sizeOf-some}
-use Rattle.history.specs.Histories.{Call, insert, delete, ask, count, page, Fits, History, fresh, merge, followed}
-use Rattle.history.specs.Histories.{blocks, numberOf, imageAfter, bytesAfter, Started}
+use Rattle.history.specs.Histories.{Call, insert, delete, ask, count, page, Fits, History, fresh, merge, followed, blocks, numberOf, imageAfter, bytesAfter, Started}
 use Rattle.history.specs.Ledgers.{fingerprintOf, entered, ledger, smaller}
 use Rattle.history.specs.Refusals.{due, Due}
 use Rattle.machine.proofs.Invariant.{Good, OneMore, total}

@@ -1,6 +1,6 @@
 -- An insert by what was read: the front bucket has a free slot, both backyard buckets are full, or one of them takes the overflow.
 use mathlib.Core.Path.{_≡_, refl, _∙_}
-use Prim.Native.Nat.{ℕ, suc, _+_, _*_, _≤_, _<_}
+use Prim.Native.Nat.{ℕ, suc, _+_, _≤_, _<_}
 use mathlib.Core.Bool.{Bool, true, false, cond, _&&_}
 use mathlib.Core.List.{List}
 use native.Mathlib.Nat.{max-eq-left, max-eq-right}
@@ -16,7 +16,7 @@ use Rattle.crumbmap.specs.CrumbMap.{firstBucket, secondBucket, bucketOf}
 use Rattle.crumbmap.specs.Places.{Leads}
 use Rattle.crumbmap.specs.declared.Overflow.{Overflow}
 use Rattle.machine.specs.Results.{refused}
-use Rattle.machine.specs.Images.{putFront, putBack}
+use Rattle.machine.specs.Images.{putFront}
 use Rattle.machine.specs.Machine.{backyard, changed, insertAt}
 use Rattle.image.specs.ImageReads.{inFront, inBack, FrontRead, FrontFull, BothRead}
 use Rattle.insertion.specs.Insertions.{overflowed}

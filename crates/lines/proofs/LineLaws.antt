@@ -1,7 +1,7 @@
 -- The lines of an input: those that were joined come back, and 19 bytes of a line say what all of it says.
 -- Main results: lines-joined, lines-last, output-none; kept-full, kept-more; reads-byte, reads-newline.
 use mathlib.Core.Path.{_≡_, refl, sym, _∙_, ap}
-use Prim.Native.Nat.{ℕ, zero, suc, _+_, _≤_, _<_}
+use Prim.Native.Nat.{ℕ, _+_, _≤_, _<_}
 use mathlib.Core.Bool.{Bool, true, false}
 use mathlib.Core.List.{List, [], _∷_, _++_, map, append-assoc, append-nil}
 use native.Mathlib.Omega.{arith}

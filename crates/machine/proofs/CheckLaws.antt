@@ -20,18 +20,7 @@ use Rattle.buckets.specs.Buckets.{Fits64, isSome, valid, frontMembers, backMemb
 use Rattle.buckets.proofs.BucketLaws.{frontMembers-list, backMembers-list}
 use Rattle.machine.specs.Results.{Result, accepted, refused, orUnsound}
 use Rattle.machine.specs.Images.{sizeOf, bucketAt, frontAt, backAt}
-use Rattle.machine.specs.Checks.{
-  unless,
-  orLater,
-  unsoundFront,
-  unsoundBack,
-  inTurn,
-  homeInTurn,
-  allInTurn,
-  bucketInTurn,
-  early,
-  checkSized,
-}
+use Rattle.machine.specs.Checks.{unless, orLater, unsoundFront, unsoundBack, inTurn, homeInTurn, allInTurn, bucketInTurn, early, checkSized}
 use Rattle.machine.proofs.Tests.{true-both, both-true, left-true, right-true}
 use Rattle.machine.proofs.ImageLaws.{sizeOf-some, front-inside, back-inside, length-bucketAt, below-bucket}
 use Rattle.machine.proofs.Invariant.{Good, listOf, frontView, backView, part, over}

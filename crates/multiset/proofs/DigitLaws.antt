@@ -3,23 +3,7 @@
 use mathlib.Core.Path.{_≡_, refl, sym, ap, ap₂, _∙_}
 use Prim.Native.Nat.{ℕ, zero, suc, _+_, _*_, _/_, _%_, _-_, _^_, _≤_, _<_}
 use mathlib.Core.List.{List, [], _∷_, _++_, append-assoc}
-use native.Mathlib.Nat.{
-  pow-zero,
-  pow-suc,
-  pow-succ',
-  zero-mul,
-  mod-lt,
-  mod-add-div,
-  mod-eq-of-lt,
-  div-eq-of-lt,
-  div-lt-iff-lt-mul,
-  le-div-iff-mul-le,
-  div-mul-le-self,
-  add-mul-mod-self-left,
-  add-mul-div-left,
-  mul-le-mul-left,
-  div-add-mod',
-}
+use native.Mathlib.Nat.{pow-zero, pow-suc, pow-succ', zero-mul, mod-lt, mod-add-div, mod-eq-of-lt, div-eq-of-lt, div-lt-iff-lt-mul, le-div-iff-mul-le, div-mul-le-self, add-mul-mod-self-left, add-mul-div-left, mul-le-mul-left, div-add-mod'}
 use native.Mathlib.Omega.{arith}
 use lib.ListN.{length, take, drop, replicate, length-append, length-replicate, length-drop, take-append-drop}
 use lib.Seq.{length-take-le, take-at, drop-at, take-add, take-append-seam}

@@ -10,7 +10,7 @@ use lib.ListN.{length, take, drop, getD}
 use lib.Seq.{take-nil, drop-nil}
 use lib.Dec.{T}
 use Rattle.multiset.specs.Multisets.{added, removed, below, copies, largest, ascending}
-use Rattle.multiset.proofs.MultisetLaws.{added-front, added-behind, removed-here, removed-later, copies-cons, hit-other, below-smaller, below-other, below-none, below-suc, below-all, below-lt-length, ascending-tail, ascending-le}
+use Rattle.multiset.proofs.MultisetLaws.{added-front, added-behind, removed-here, removed-later, copies-cons, hit-other, below-smaller, below-other, below-none, below-suc, below-lt-length, ascending-tail, ascending-le}
 
 added-head : (x y : ℕ) (ys : List ℕ) → T (ascending (y ∷ ys)) → x ≤ y → added x ys ≡ x ∷ ys
 unfolding added

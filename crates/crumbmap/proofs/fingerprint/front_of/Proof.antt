@@ -1,7 +1,7 @@
 -- `front_of` gives document 01's f: the product stays below 2 ^ 51.
 use native.Mathlib.Omega.{arith}
 use mathlib.Core.Path.{refl}
-use Prim.Native.Nat.{_≤_, _/_, _*_, _^_}
+use Prim.Native.Nat.{_≤_, _/_, _*_}
 use native.Mathlib.Nat.{mul-le-mul-right}
 use Rattle.crumbmap.specs.Layouts.{fronts}
 use Rattle.crumbmap.specs.Fingerprints.{frontOf}

@@ -1,6 +1,5 @@
 -- `key_of` joins m and r.
 use native.Mathlib.Omega.{arith}
-use mathlib.Core.Path.{refl}
 use Rattle.crumbmap.specs.Fingerprints.{keyOf}
 use borrow.Author.Needs.{needs}
 use Rattle.crumbmap.proofs.fingerprint.key_of.Statement.{statement}

@@ -1,6 +1,5 @@
 -- `stride_of` gives document 01's K.
 use native.Mathlib.Omega.{arith}
-use mathlib.Core.Path.{refl}
 use Rattle.crumbmap.specs.CrumbMap.{stride}
 use borrow.Author.Needs.{needs}
 use Rattle.crumbmap.proofs.map.stride_of.Statement.{statement}

@@ -8,9 +8,8 @@ use borrow.Author.Tests.{lt-ltb, le-ltb}
 use Rattle.multiset.specs.Multisets.{added, largest}
 use Rattle.crumbmap.specs.CrumbMap.{firstBucket, secondBucket}
 use Rattle.image.specs.ImageReads.{inFront, inBack, BothHold, BothRank}
-use Rattle.image.proofs.ImageReadLaws.{both-hold, both-unsound, chosen-way, changes}
+use Rattle.image.proofs.ImageReadLaws.{both-hold, both-unsound, chosen-way, changes, room-first, room-second, room-left}
 use Rattle.insertion.proofs.InsertSteps.{insert-unsound, insert-stuck, insert-over}
-use Rattle.image.proofs.ImageReadLaws.{room-first, room-second, room-left}
 use Rattle.insertion.proofs.insert.insert_full.Statement.{statement}
 use Rattle.insertion.proofs.insert.insert_full.Tie as tie
 

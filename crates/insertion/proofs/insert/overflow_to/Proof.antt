@@ -7,7 +7,7 @@ use mathlib.Core.List.{List}
 use lib.ListN.{length}
 use native.Mathlib.Omega.{arith}
 use borrow.Author.Needs.{needs}
-use Rattle.multiset.specs.Multisets.{added, removed, largest}
+use Rattle.multiset.specs.Multisets.{added, largest}
 use Rattle.multiset.proofs.SlotLaws.{below-without}
 use Rattle.crumbmap.specs.Layouts.{layout1, keys}
 use Rattle.machine.specs.Images.{putFront}

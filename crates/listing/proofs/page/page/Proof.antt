@@ -1,6 +1,6 @@
 -- A size or number 1; 6 past the end; else the page of an image of that size.
 use borrow.Author.Needs.{needs}
-use mathlib.Core.Path.{refl}
+use mathlib.Core.Path.{refl, _≡_}
 use native.Mathlib.Omega.{arith}
 use lib.ListN.{length}
 use borrow.Author.Tests.{lt-ltb}
@@ -10,7 +10,6 @@ use Rattle.machine.specs.Pages.{pageFrom}
 use Rattle.machine.specs.Calls.{pageOf}
 use Rattle.machine.proofs.ImageLaws.{sizeOf-some}
 use Rattle.image.proofs.ImageReadLaws.{size-some, size-none}
-use mathlib.Core.Path.{_≡_, refl}
 use mathlib.Core.Option.{some}
 use Rattle.listing.proofs.page.page.Statement.{statement}
 use Rattle.listing.proofs.page.page.Tie as tie

@@ -1,6 +1,6 @@
 -- The loop's invariant: the entries of the buckets passed stand in front of what `out` held. The measure is the buckets that are left.
 use mathlib.Core.Path.{_≡_, refl}
-use Prim.Native.Nat.{_-_, _≤_}
+use Prim.Native.Nat.{_-_, _≤_, _+_}
 use native.Mathlib.Omega.{arith}
 use lib.ListN.{length}
 use borrow.Author.Needs.{needs}
@@ -8,7 +8,6 @@ use Rattle.image.specs.Listed.{Listed}
 use Rattle.listing.specs.Listings.{entriesIn}
 use Rattle.listing.proofs.PageSteps.{listed-none, bucket-room, bucket-written}
 use borrow.Rule.Slice.PartMut.{putMid}
-use Prim.Native.Nat.{_+_, _-_, _≤_}
 use Rattle.listing.proofs.page.write_run.Statement.{statement}
 use Rattle.listing.proofs.page.write_run.Tie as tie
 

@@ -13,16 +13,14 @@ use Rattle.machine.specs.Images.{putFront}
 use Rattle.machine.specs.Merges.{insertAll}
 use Rattle.listing.specs.Listings.{BehindRead}
 use Rattle.validation.specs.Passes.{AllRead}
-use Rattle.spill.specs.Spills.{reached}
-use Rattle.spill.specs.Spills.{stays, goes, pushAll}
+use Rattle.spill.specs.Spills.{reached, stays, goes, pushAll}
 use Rattle.machine.proofs.Invariant.{Good}
 use Rattle.image.proofs.ImageReadLaws.{front-in}
 use Rattle.merging.proofs.MergeSteps.{good-of, read-of, behind-read}
 use Rattle.spill.proofs.SpillSteps.{then-on, then-full}
 use Rattle.spill.proofs.SpillLaws.{stays-list, goes-range}
 use Rattle.spill.proofs.PushLaws.{behind-filled}
-use Rattle.merging.proofs.JoinLaws.{first-list, joined-spills}
-use Rattle.merging.proofs.JoinLaws.{first-28}
+use Rattle.merging.proofs.JoinLaws.{first-list, joined-spills, first-28}
 use Rattle.merging.proofs.merge.join.Statement.{statement}
 use Rattle.merging.proofs.merge.join.Tie as tie
 

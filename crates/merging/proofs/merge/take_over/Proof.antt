@@ -5,10 +5,9 @@ use Rattle.machine.specs.Results.{andThen}
 use Rattle.machine.specs.Images.{put}
 use Rattle.listing.specs.Listings.{behindIn, BehindRead}
 use Rattle.validation.specs.Passes.{AllRead}
-use Rattle.spill.specs.Spills.{reached}
+use Rattle.spill.specs.Spills.{reached, pushAll}
 use Rattle.merging.specs.Merging.{bothInserted}
 use Rattle.image.specs.ImageReads.{served}
-use Rattle.spill.specs.Spills.{pushAll}
 use Rattle.machine.proofs.ImageLaws.{front-inside}
 use Rattle.machine.proofs.Invariant.{Good}
 use Rattle.machine.proofs.Changes.{good-length}

@@ -1,11 +1,9 @@
 -- `minifilter::find::count_front` meets its contract: the word has a mini-bucket for each member (`held-count`).
 use borrow.Author.Needs.{needs}
 use mathlib.Core.Path.{_≡_, _∙_}
-use Prim.Native.Nat.{ℕ}
 use mathlib.Core.Bool.{false}
-use lib.ListN.{length, take}
+use lib.ListN.{length}
 use lib.Count.{ones}
-use Rattle.multiset.specs.Digits.{value}
 use Rattle.buckets.specs.Words.{minisOf}
 use Rattle.minifilter.specs.Readings.{frontList}
 use Rattle.buckets.proofs.ElementLaws.{below-bytes}

@@ -16,9 +16,7 @@ use borrow.Author.Tests.{le-leb, lt-leb}
 use Rattle.multiset.specs.Multisets as M
 use Rattle.minifilter.specs.Slots.{endOf, slotMinis, slotMembers, inOrder}
 use Rattle.buckets.proofs.GapLaws.{gaps}
-use Rattle.minifilter.proofs.PassLaws.{slotCount-le, slotMinis-gaps, ZeroAt, zero-at}
-use Rattle.minifilter.proofs.PassLaws.{length-slotMembers, slotMembers-at, fromSlot, pass-start, pass-stop, pass-on, pass-end}
-use Rattle.minifilter.proofs.PassLaws.{tally-smaller, tally-other, tally-end}
+use Rattle.minifilter.proofs.PassLaws.{slotCount-le, slotMinis-gaps, ZeroAt, zero-at, length-slotMembers, slotMembers-at, fromSlot, pass-start, pass-stop, pass-on, pass-end, tally-smaller, tally-other, tally-end}
 use Rattle.minifilter.proofs.read.ascends.Statement.{statement}
 use Rattle.minifilter.proofs.read.ascends.Tie as tie
 

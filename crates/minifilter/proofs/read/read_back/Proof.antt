@@ -1,7 +1,6 @@
 -- `minifilter::read::read_back` meets its contract: what `read_slots` leaves is byte 63 and the crumbs of the members.
 use mathlib.Core.Path.{_≡_, sym, _∙_}
 use Prim.Native.Nat.{_≤_}
-use native.Mathlib.Omega.{arith}
 use mathlib.Core.Bool.{true, _&&_}
 use borrow.Author.Needs.{needs}
 use borrow.Author.Tests.{eq-eqb, ne-eqb}

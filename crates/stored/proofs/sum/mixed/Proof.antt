@@ -1,6 +1,6 @@
 -- `mixed` multiplies by parts, each of which fits.
 use native.Mathlib.Omega.{arith}
-use mathlib.Core.Path.{_≡_, _∙_}
+use mathlib.Core.Path.{_∙_}
 use lib.Bits.{xor-lt}
 use Rattle.stored.specs.Checksums.{mix}
 use Rattle.stored.proofs.ChecksumLaws.{mix-parts}
