@@ -75,7 +75,7 @@ module _ (L : Layout) where
       let ys : List ℕ = joined 16 xs cs in
       given (ascending ys) (given (allZero (drop (length xs) cs)) (given (valid B j ys) (some ys))))
 
--- a layout whose buckets fit 64 bytes, "mini-bucket, slot and tag numbers above nought"
+-- a layout whose buckets fit 64 bytes, its mini-buckets and front slots above nought
 pub record Fits64 (L : Layout) : Type 0 where
   pub minis : 0 < L .minis
   pub slots : 0 < L .frontSlots

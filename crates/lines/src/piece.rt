@@ -45,7 +45,7 @@ fn take_line(image: &mut [u8], bytes: &[u8], line: &mut [u8], held: usize, out: 
     let n = h.held;
     if used == bytes.len() {
         return Step {
-            used: used,
+            used,
             held: n,
             text: 0,
         };
@@ -54,6 +54,6 @@ fn take_line(image: &mut [u8], bytes: &[u8], line: &mut [u8], held: usize, out: 
     Step {
         used: used + 1,
         held: 0,
-        text: text,
+        text,
     }
 }

@@ -12,7 +12,7 @@ use Rattle.insertion.proofs.insert.insert_at.Statement.{statement}
 use Rattle.insertion.proofs.insert.insert_at.Tie as tie
 
 read-front-at-requires : tie.Need-read-front-at-requires
-read-front-at-requires c κs = (front-in (c .before .before .before .pre .within), c .before .before .before .pre .key)
+read-front-at-requires c κs = let p = c .before .before .before .pre in (front-in (p .within), omega (arith, p .key))
 
 enum-known-n : tie.Need-enum-known-n
 enum-known-n c = search needs
@@ -46,7 +46,7 @@ insert-front-at-requires : tie.Need-insert-front-at-requires
 insert-front-at-requires c κs =
     let c9 = c .before .before .before .before .before .before .before .before .before in
     let r = front (c .before .before) in
-    (r .0, omega (arith, r .1), c9 .pre .key, r .2)
+    (r .0, omega (arith, r .1), omega (arith, c9 .pre .key), r .2)
 
 same-length-2 : tie.Need-same-length-2
 same-length-2 c = search needs

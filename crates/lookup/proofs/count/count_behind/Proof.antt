@@ -1,4 +1,5 @@
 -- `lookup::count::count_behind` meets its contract. The copies in front, in First(f) and in Second(f), at most 28 + 22 + 22.
+use mathlib.Core.Path.{ap}
 use mathlib.Core.Bool.{true, false}
 use native.Mathlib.Omega.{arith}
 use lib.ListN.{length}
@@ -6,7 +7,7 @@ use borrow.Author.Needs.{needs}
 use borrow.Author.Tests.{eq-eqb, le-leb}
 use Rattle.multiset.specs.Multisets.{largest}
 use Rattle.multiset.proofs.MultisetLaws.{copies-le-length}
-use Rattle.machine.specs.Machine.{countAt}
+use Rattle.machine.specs.Machine.{countAt, counted}
 use Rattle.image.specs.ImageReads.{inFront, BothRead, BothRank}
 use Rattle.image.proofs.ImageReadLaws.{both-hold, both-unsound, both-accepts, chosen-way}
 use Rattle.lookup.proofs.count.count_behind.Statement.{statement}
@@ -109,10 +110,8 @@ returns-2 c =
       eq-eqb (length xs) 28 (s .pre .whole .full),
       le-leb (largest xs) (t .key) (s .pre .reach),
       both-accepts (both c4 .0),
-      s .pre .many,
-      a,
-      b,
     )
+    (ap (counted 3) (omega (arith, s .pre .many, a, b)))
 
 pub count-behind-spec : {M : Type 1} → statement M
 count-behind-spec =
