@@ -8,7 +8,7 @@ use lib.ListN.{length, take, drop, length-drop}
 use lib.Seq.{take-length}
 use borrow.Author.Tests.{eq-eqb, ne-eqb}
 use Rattle.buckets.specs.Buckets.{given}
-use Rattle.frame.specs.Texts.{unhex}
+use Rattle.text.specs.Texts.{unhex}
 use Rattle.frame.specs.Frames.{operation, frameOf}
 use Rattle.frame.specs.declared.Frame.the-variants.{Malformed}
 

@@ -1,6 +1,4 @@
--- Laws of hex digits, of text in an output, of frames and of what each prints.
-pub mod TextLaws
-pub mod PrintLaws
+-- Laws of frames, of what they print, and that a list is a whole walk.
 pub mod FrameLaws
 pub mod PerformLaws
 pub mod WalkLaws

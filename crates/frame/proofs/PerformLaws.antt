@@ -16,11 +16,12 @@ use Rattle.answers.specs.declared.Refusal.{Refusal}
 use Rattle.answers.specs.Pairs.{saidOf, refusalOf, itself}
 use Rattle.answers.specs.declared.pairs.Said.{Said}
 use Rattle.answers.proofs.PairLaws.{said-refusal, refusal-number}
-use Rattle.frame.specs.Texts.{over}
-use Rattle.frame.specs.Frames.{line, told, entryLines, listText, frameOf, textOf, imageAfter, Performs, fit, Answers}
+use Rattle.text.specs.Texts.{over}
+use Rattle.text.specs.Lines.{line, told, entryLines}
+use Rattle.frame.specs.Frames.{listText, frameOf, textOf, imageAfter, Performs, fit, Answers}
 use Rattle.frame.specs.declared.Frame.{Frame}
 use Rattle.frame.specs.declared.Printed.the-variants.{Text, Unfit}
-use Rattle.frame.proofs.PrintLaws.{length-line, length-entryLines, over-next}
+use Rattle.text.proofs.PrintLaws.{length-line, length-entryLines, over-next}
 
 -- ---- a list
 

@@ -3,7 +3,7 @@
 use mathlib.Core.Path.{_≡_}
 use Prim.Native.Nat.{ℕ, _+_, _*_}
 use mathlib.Core.Bool.{Bool, cond, _&&_}
-use mathlib.Core.List.{List, [], _∷_, _++_}
+use mathlib.Core.List.{List, [], _++_}
 use mathlib.Core.Option.{Option, none, some, bind}
 use lib.ListN.{length, take, drop}
 use lib.Dec.{eqb, leb}
@@ -14,20 +14,14 @@ use Rattle.machine.specs.Machine.{Asked, Counted, Place, nowhere, front, first,
 use Rattle.machine.specs.Pages.{Run}
 use Rattle.machine.specs.Calls.{insertOf, deleteOf, askOf, countOf, pageOf, imageOf}
 use Rattle.answers.specs.Pairs.{saidOf, answerValue}
-use Rattle.answers.specs.declared.pairs.Said.{Said}
-use Rattle.frame.specs.Texts.{hex, unhex, over}
+use Rattle.text.specs.Texts.{unhex, over}
 use Rattle.frame.specs.declared.Frame.{Frame}
 use Rattle.frame.specs.declared.Frame.the-variants.{Insert, Delete, Ask, Count, List as Listing, Malformed}
-use Rattle.frame.specs.declared.Digits.{Digits}
-use Rattle.frame.specs.declared.Digits.the-variants.{Number, Other}
 use Rattle.frame.specs.declared.Printed.{Printed}
 use Rattle.frame.specs.declared.Printed.the-variants.{Text, Unfit}
+use Rattle.text.specs.Lines.{malformed, line, told, entryLines}
 
 -- ---- frames
-
-abbrev pub digitsOf : Option ℕ → Digits
-digitsOf none = Other
-digitsOf (some v) = Number v
 
 -- the frame of an operation and a hash
 unfoldable pub operation : ℕ → ℕ → Frame
@@ -48,22 +42,7 @@ frameOf line =
     orMalformed (given (eqb (length line) 18)
     (bind (unhex 0 (take 2 line)) (λ n. bind (unhex 0 (drop 2 line)) (λ k. some (operation n k)))))
 
--- ---- lines
-
--- "a line of 16 digits", with its newline
-unfoldable pub entry : ℕ → List ℕ
-entry v = hex 16 v ++ (10 ∷ [])
-
--- "operation, answer number in two digits (00 accepted) and a 16-digit value"
-unfoldable pub line : ℕ → ℕ → ℕ → List ℕ
-line n answer v = hex 2 n ++ (hex 2 answer ++ entry v)
-
-abbrev pub told : ℕ → Said → List ℕ
-told n s = line n (s .number) (s .value)
-
--- `FF090000000000000000`
-abbrev pub malformed : List ℕ
-malformed = line 255 9 0
+-- ---- the values that lines tell
 
 -- "for count, its copies"
 abbrev pub copiesValue : Counted → ℕ
@@ -82,10 +61,6 @@ askValue a = a .reads + 16 * placeNumber (a .place)
 -- "for list, the member count, then a line of 16 digits for each g"
 abbrev pub countValue : Run → ℕ
 countValue r = length (r .entries)
-
-unfoldable pub entryLines : List ℕ → List ℕ
-entryLines [] = []
-entryLines (g ∷ gs) = entry g ++ entryLines gs
 
 abbrev pub entriesOf : Result Run → List ℕ
 entriesOf (accepted r) = r .entries

@@ -1,3 +1,2 @@
--- The small program of document 01: frames as text, and what each prints and leaves.
-pub mod Texts
+-- One frame of the small program, by the plain machine.
 pub mod Frames

@@ -2,8 +2,6 @@
 
 pub mod parse;
 pub mod perform;
-pub mod print;
-pub mod text;
 
 // "Operation (01 insert, 02 delete, 03 ask, 04 count, 05 list), then the hash (zeros for 05)"; any other line is malformed.
 pub enum Frame {
@@ -13,12 +11,6 @@ pub enum Frame {
     Count(u64),
     List,
     Malformed,
-}
-
-// The number that hex digits stand for, or that one of the bytes is no such digit.
-pub enum Digits {
-    Number(u64),
-    Other,
 }
 
 // How many bytes of text stand in the output, or that image or output have not the length they need.

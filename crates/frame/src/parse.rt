@@ -1,8 +1,8 @@
 // A line taken apart: "a frame is 18 upper-case hex digits".
 
-use crate::Digits;
 use crate::Frame;
-use crate::text::number_of;
+use text::Digits;
+use text::hex::number_of;
 ghost use mathlib.Core.Path.{_≡_};
 ghost use Rattle.frame.specs.Frames.{operation, frameOf};
 

@@ -3,9 +3,6 @@
 use crate::Frame;
 use crate::Printed;
 use crate::parse::parse;
-use crate::print::put_entries;
-use crate::print::put_line;
-use crate::print::put_malformed;
 use answers::Answer;
 use answers::Paged;
 use answers::Place;
@@ -18,6 +15,9 @@ use breadcrumb::count;
 use breadcrumb::delete;
 use breadcrumb::insert;
 use breadcrumb::page;
+use text::print::put_entries;
+use text::print::put_line;
+use text::print::put_malformed;
 ghost use mathlib.Core.Path.{_≡_};
 ghost use Prim.Native.Nat.{_≤_};
 ghost use lib.ListN.{length};
@@ -25,7 +25,7 @@ ghost use Rattle.crumbmap.specs.Layouts.{layout1};
 ghost use Rattle.machine.specs.Calls.{pageOf};
 ghost use Rattle.answers.specs.Answers.{placeOf, askedOf, countedOf};
 ghost use Rattle.answers.specs.Pairs.{saidOf};
-ghost use Rattle.frame.specs.Texts.{over};
+ghost use Rattle.text.specs.Texts.{over};
 ghost use Rattle.frame.specs.Frames.{placeNumber, askValue, copiesValue, listText, room, Performs, Answers};
 
 // A line of input, without its newline, on an image with B = 3: its answer stands at the start of `out`.

@@ -11,11 +11,11 @@ use lib.Seq.{take-add, take-length, take-nil, take-suc, take-append-seam}
 use Rattle.crumbmap.specs.Layouts.{layout1}
 use Rattle.machine.specs.Images.{sizeOf, lengthOf}
 use Rattle.machine.specs.Calls.{freshOf, written}
-use Rattle.frame.specs.Texts.{over}
+use Rattle.text.specs.Texts.{over}
 use Rattle.frame.specs.Frames.{frameOf, textOf, imageAfter, fit, Answers}
 use Rattle.frame.specs.declared.Frame.{Frame}
 use Rattle.frame.specs.declared.Printed.the-variants.{Text, Unfit}
-use Rattle.frame.proofs.PrintLaws.{over-whole}
+use Rattle.text.proofs.PrintLaws.{over-whole}
 use Rattle.frame.proofs.PerformLaws.{fit-both}
 use Rattle.lines.specs.Inputs.{linesAfter, framesAfter, textOfFrames, imageOfFrames, startImage, outputOf, imageOfInput}
 use Rattle.lines.specs.Turns.{Turn, Holds, Replies, Steps, Ends, Taken, none, step, Run, start, piece, joined}

@@ -1,7 +1,7 @@
 // A stored line taken apart.
 
-use frame::Digits;
-use frame::text::number_of;
+use text::Digits;
+use text::hex::number_of;
 
 // An operation, the image that it is performed on, two sources for a merge or a copy, and the numbers p and q.
 pub struct Line {

@@ -1,6 +1,6 @@
 // The line that answers a call.
 
-use frame::print::put_digits;
+use text::print::put_digits;
 ghost use mathlib.Core.Path.{_≡_};
 ghost use lib.ListN.{length};
 

@@ -1,8 +1,8 @@
 -- `parse` reads the operation and the hash of a line of 18 digits.
 use mathlib.Core.Path.{sym, _∙_}
 use lib.ListN.{take, drop}
-use Rattle.frame.specs.Texts.{unhex}
-use Rattle.frame.proofs.TextLaws.{digit-some, digit-none}
+use Rattle.text.specs.Texts.{unhex}
+use Rattle.text.proofs.TextLaws.{digit-some, digit-none}
 use Rattle.frame.proofs.FrameLaws.{frame-length, frame-operation, frame-hash, frame-whole}
 use borrow.Author.Needs.{needs}
 use Rattle.frame.proofs.parse.parse.Statement.{statement}

@@ -9,9 +9,10 @@ use Rattle.machine.specs.Results.{Result, accepted}
 use Rattle.machine.specs.Pages.{Run}
 use Rattle.machine.specs.Calls.{pageOf, outputOf}
 use Rattle.answers.specs.Answers.{extentOf}
-use Rattle.frame.specs.Texts.{over}
-use Rattle.frame.specs.Frames.{told, listText, room}
-use Rattle.frame.proofs.PrintLaws.{length-line}
+use Rattle.text.specs.Texts.{over}
+use Rattle.text.specs.Lines.{told}
+use Rattle.frame.specs.Frames.{listText, room}
+use Rattle.text.proofs.PrintLaws.{length-line}
 use Rattle.frame.proofs.PerformLaws.{take-le, list-room, list-text, list-refused}
 use borrow.Author.Needs.{needs}
 use Rattle.frame.proofs.perform.list_by.Statement.{statement}

@@ -4,7 +4,8 @@ use Rattle.crumbmap.specs.Layouts.{layout1}
 use Rattle.machine.specs.Calls.{insertOf, deleteOf}
 use Rattle.answers.specs.declared.pairs.Said.{Said}
 use Rattle.answers.proofs.PairLaws.{said-changed}
-use Rattle.frame.specs.Frames.{told, textOf, imageAfter}
+use Rattle.text.specs.Lines.{told}
+use Rattle.frame.specs.Frames.{textOf, imageAfter}
 use Rattle.frame.specs.declared.Frame.the-variants.{Insert, Delete, Ask, Count, Malformed}
 use Rattle.frame.proofs.PerformLaws.{performs-line}
 use borrow.Author.Needs.{needs}

@@ -1,0 +1,3 @@
+-- Hex digits, and lines of them.
+pub mod Texts
+pub mod Lines
