@@ -51,20 +51,23 @@ pub fn remove_back_at(image: &mut [u8], size: usize, bucket: Backyard, slot: usi
     remove_back(&mut image[at..end], slot, member);
 }
 
-// How many members b0 and b1 hold, and how many are below a key with the crumb that it carries there.
+// How many members b0 and b1 hold, and how many are below a key with the crumb that it carries there. The table numbers stand before the
+// readings: so the function is small enough to become part of its callers, which a full insert feels.
 pub fn read_behind(image: &[u8], size: usize, front: Front, key: u32) -> Behind
     requires { ⌜ FrontIn size (front .0) (now image) × (key < keys layout1) ⌝ }
     ensures { λ r. ⌜ BehindSays size (front .0) key (now (image .entry)) r ⌝ }
 {
     let first = first_of(front, size);
+    let t0 = table_of(size, first.bucket);
     let Reading::Members(n0, s0) = read_back_at(image, size, first.bucket, key * 16 + first.crumb)
     else {
-        return Behind::Unsound(table_of(size, first.bucket));
+        return Behind::Unsound(t0);
     };
     let second = second_of(front, size);
+    let t1 = table_of(size, second.bucket);
     let Reading::Members(n1, s1) = read_back_at(image, size, second.bucket, key * 16 + second.crumb)
     else {
-        return Behind::Unsound(table_of(size, second.bucket));
+        return Behind::Unsound(t1);
     };
     Behind::Members(
         Ranked {
