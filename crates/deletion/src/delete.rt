@@ -24,8 +24,8 @@ use image::place::bucket;
 use image::place::locate;
 use minifilter::Carried;
 use minifilter::Reading;
-use minifilter::find::copies_front;
 use minifilter::find::first_carrying;
+use minifilter::find::holds_front;
 use minifilter::find::largest_front;
 ghost use mathlib.Core.Path.{_≡_};
 ghost use Prim.Native.Nat.{_+_, _<_};
@@ -55,7 +55,7 @@ fn delete_at(image: &mut [u8], target: Target) -> Changed
     let Reading::Members(n, slot) = read_front_at(image, front, key) else {
         return Changed::Refused(Refusal::Unsound(front.0));
     };
-    if copies_front(bucket(image, front.0), slot, key) == 0 {
+    if !holds_front(bucket(image, front.0), slot, key) {
         return delete_other(image, target, n);
     }
     if n < 28 {

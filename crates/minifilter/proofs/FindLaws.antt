@@ -10,7 +10,8 @@ use native.Mathlib.Omega.{arith, by-contra, both-ways}
 use lib.ListN.{length, take, drop, getD, replicate, List·getD-append}
 use lib.Seq.{drop-at, take-all}
 use lib.Count.{ones}
-use lib.Dec.{T, lit<, lit≤}
+use lib.Dec.{T, leb, ltb, lit<, lit≤}
+use borrow.Author.Tests.{lt-ltb, le-ltb, leb-true, leb-false}
 use Rattle.multiset.specs.Multisets.{ascending, below, copies, Below}
 use Rattle.multiset.specs.Digits.{value, spread, grouped, padded, highs, lows}
 use Rattle.crumbmap.specs.Layouts.{layout1, keys, wordBytes}
@@ -20,7 +21,7 @@ use Rattle.minifilter.specs.Readings.{SoundFront, SoundBack, frontList, 
 use Rattle.minifilter.specs.Slots.{slotCount}
 use Rattle.minifilter.specs.Searches.{Sound, membersOf, spanOf, lowAt, Scanned}
 use Rattle.multiset.proofs.MultisetLaws.{below-le-length, below-smaller, below-other, below-suc}
-use Rattle.multiset.proofs.SlotLaws.{slot-below, slot-above}
+use Rattle.multiset.proofs.SlotLaws.{slot-below, slot-above, holds-copy}
 use Rattle.multiset.proofs.DigitLaws.{ascending-highs, below-highs, below-lows, below-padded, length-highs, length-lows, length-padded, spread-grouped}
 use Rattle.buckets.proofs.ElementLaws.{grouped-at}
 use Rattle.buckets.proofs.WordLaws.{Run, Coded, coded-word, minis-coded, ones-coded, coded-lt}
@@ -332,3 +333,36 @@ copies-scanned crumbs b ys h mini low slot end fit e s =
     let last : below (mini * spanOf crumbs + (low + 1)) ys ≡ end = scanned-below crumbs b ys h mini (low + 1) slot end (omega arith)
     (omega (arith, rank-from crumbs ys mini low fit)) (λ i l. omega (arith, slot-below x i ys (h .order) (omega arith))) s in
     omega (arith, below-suc x ys, ap (λ (z : ℕ). below z ys) next)
+
+-- the slot behind the smaller members: no copy stands there where its mini-bucket has ended or it holds more, and one does where it holds no more
+module _ (crumbs : Bool) (b ys : List ℕ) (h : Held crumbs b ys) (mini low slot : ℕ) (l : low < spanOf crumbs)
+    (at : slot ≡ below (mini * spanOf crumbs + low) ys) where
+  pub holds-none : (slot < below (suc mini) (highs (spanOf crumbs) ys) → low < lowAt crumbs b slot) → copies (mini * spanOf crumbs + low) ys ≡ 0
+  holds-none more =
+      let s : Scanned crumbs b slot (below (suc mini) (highs (spanOf crumbs) ys)) (low + 1) slot = record {
+        start = omega arith;
+        stop = omega (arith, at, rank-past crumbs ys mini low l);
+        smaller = λ i p q. absurd (omega arith);
+        here = λ p. omega (arith, more p);
+      } in
+      omega (arith, copies-scanned crumbs b ys h mini low slot slot l at s)
+
+  pub holds-some : slot < below (suc mini) (highs (spanOf crumbs) ys) → lowAt crumbs b slot ≤ low → 0 < copies (mini * spanOf crumbs + low) ys
+  holds-some inside few =
+      let k = spanOf crumbs in
+      let x = mini * k + low in
+      let y = getD ys slot 0 in
+      let long : slot < length ys = omega (arith, below-le-length (suc mini) (highs k ys), length-highs k ys) in
+      let up : x ≤ y = slot-above x slot ys (h .order) (omega (arith, at)) long in
+      let high : y / k < suc mini = rw (getD-highs k slot ys) at (slot-below (suc mini) slot (highs k ys) (ascending-highs k ys (span-pos crumbs) (h .order)) inside) in
+      let split : y / k * k + y % k ≡ y = div-add-mod' y k in
+      let part : y / k * k ≤ mini * k = mul-le-mul-right k (omega arith) in
+      holds-copy x slot ys (h .order) long (omega (arith, h .low slot long))
+
+  pub holds-test : slot < below (suc mini) (highs (spanOf crumbs) ys) → {v : ℕ} → v ≡ lowAt crumbs b slot
+      → leb v low ≡ ltb 0 (copies (mini * spanOf crumbs + low) ys)
+  holds-test inside {v} e = go (leb v low) refl
+    where
+      go : (t : Bool) → leb v low ≡ t → t ≡ ltb 0 (copies (mini * spanOf crumbs + low) ys)
+      go true q = sym (lt-ltb 0 (copies (mini * spanOf crumbs + low) ys) (holds-some inside (omega (arith, e, leb-true v low q))))
+      go false q = sym (le-ltb 0 (copies (mini * spanOf crumbs + low) ys) (omega (arith, holds-none (λ p. omega (arith, e, leb-false v low q)))))

@@ -1,10 +1,12 @@
 -- What search shares between the two kinds of bucket: its members, and the part of a member below its mini-bucket. A bucket with crumbs is a
 -- backyard bucket.
+use mathlib.Core.Path.{_≡_}
 use Prim.Native.Nat.{ℕ, _+_, _*_, _<_, _≤_}
 use mathlib.Core.Bool.{Bool, true, false}
 use mathlib.Core.List.{List}
 use lib.ListN.{drop, getD}
 use lib.Dec.{eqb}
+use Rattle.multiset.specs.Multisets.{below}
 use Rattle.multiset.specs.Digits.{spread, grouped}
 use Rattle.buckets.specs.Buckets.{carrying}
 use Rattle.minifilter.specs.Readings.{SoundFront, SoundBack, frontList, backList}
@@ -26,6 +28,13 @@ spanOf true = 1048576
 abbrev pub lowAt : Bool → List ℕ → ℕ → ℕ
 lowAt false b i = getD (grouped 256 2 28 (drop 8 b)) i 0
 lowAt true b i = getD (grouped 256 2 28 (drop 8 b)) i 0 * 16 + getD (spread 16 2 (drop 52 b)) i 0
+
+-- of a sound bucket's members, `slot` are below the one of mini-bucket m and low part v
+pub record RankOf (crumbs : Bool) (b : List ℕ) (slot m v : ℕ) : Type 0 where
+  pub sound : Sound crumbs b
+  pub mini : m < 36
+  pub low : v < spanOf crumbs
+  pub rank : slot ≡ below (m * spanOf crumbs + v) (membersOf crumbs b)
 
 -- r is the first of the slots `from`, .., `past` − 1 that holds `low` or more, `past` where none does
 pub record Scanned (crumbs : Bool) (b : List ℕ) (from past low r : ℕ) : Type 0 where

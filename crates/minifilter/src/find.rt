@@ -4,18 +4,19 @@ use crate::Carried;
 use crate::slots;
 use words::word;
 ghost use mathlib.Core.Path.{_≡_};
-ghost use Prim.Native.Nat.{_+_, _*_, _-_, _<_, _≤_};
+ghost use Prim.Native.Nat.{suc, _+_, _*_, _-_, _<_, _≤_};
 ghost use mathlib.Core.List.{_++_};
 ghost use lib.ListN.{length, drop, getD};
 ghost use lib.Count.{trailingZeros};
+ghost use lib.Dec.{ltb};
 ghost use Rattle.multiset.specs.Multisets.{below, copies, largest};
-ghost use Rattle.multiset.specs.Digits.{grouped};
+ghost use Rattle.multiset.specs.Digits.{grouped, highs};
 ghost use Rattle.crumbmap.specs.Layouts.{layout1, keys};
 ghost use Rattle.words.specs.Select.{selectTable};
 ghost use Rattle.buckets.specs.Buckets.{carrying};
 ghost use Rattle.minifilter.specs.Readings.{SoundFront, SoundBack, frontList, backList, firstOf};
 ghost use Rattle.minifilter.specs.Slots.{slotCount};
-ghost use Rattle.minifilter.specs.Searches.{Sound, membersOf, spanOf, lowAt, Scanned, wantedAt, chosen};
+ghost use Rattle.minifilter.specs.Searches.{Sound, membersOf, spanOf, lowAt, Scanned, RankOf, wantedAt, chosen};
 
 // What the bytes hold of a slot.
 fn low_of(b: &[u8], crumbs: bool, slot: usize) -> u32
@@ -55,13 +56,20 @@ pub fn rank_back(table: &[u8], b: &[u8], member: u32) -> usize
     scan(b, true, slots.from, slots.past, member % 1_048_576)
 }
 
-// The copies of a member, which stand from slot `slot` on. The zeros of the word from that slot's place are the rest of its mini-bucket.
+// The slot past the last of a member's mini-bucket, from the slot where the member's copies begin: the zeros of the word from that place on.
+fn past_of(b: &[u8], crumbs: bool, slot: usize, mini: u32, low: u32) -> usize
+    requires { ⌜ RankOf crumbs (now b) slot mini low ⌝ }
+    ensures { λ r. ⌜ (r ≡ below (suc mini) (highs (spanOf crumbs) (membersOf crumbs (now (b .entry))))) × (slot ≤ r) × (r ≤ slotCount crumbs) ⌝ }
+{
+    slot + word::rest(word::word_of(b), mini, slot)
+}
+
+// The copies of a member, which stand from slot `slot` on.
 fn copies_in(b: &[u8], crumbs: bool, slot: usize, mini: u32, low: u32) -> usize
-    requires { ⌜ Sound crumbs (now b) × (mini < 36) × (low < spanOf crumbs)
-        × (slot ≡ below (mini * spanOf crumbs + low) (membersOf crumbs (now b))) ⌝ }
+    requires { ⌜ RankOf crumbs (now b) slot mini low ⌝ }
     ensures { λ r. ⌜ r ≡ copies (mini * spanOf crumbs + low) (membersOf crumbs (now (b .entry))) ⌝ }
 {
-    let past = slot + word::rest(word::word_of(b), mini, slot);
+    let past = past_of(b, crumbs, slot, mini, low);
     scan(b, crumbs, slot, past, low + 1) - slot
 }
 
@@ -78,6 +86,25 @@ pub fn copies_back(b: &[u8], slot: usize, member: u32) -> usize
     ensures { λ r. ⌜ r ≡ copies member (backList (now (b .entry))) ⌝ }
 {
     copies_in(b, true, slot, member / 1_048_576, member % 1_048_576)
+}
+
+// Whether a copy stands at that slot: it is one of the mini-bucket's, and holds no more.
+fn holds_in(b: &[u8], crumbs: bool, slot: usize, mini: u32, low: u32) -> bool
+    requires { ⌜ RankOf crumbs (now b) slot mini low ⌝ }
+    ensures { λ r. ⌜ r ≡ ltb 0 (copies (mini * spanOf crumbs + low) (membersOf crumbs (now (b .entry)))) ⌝ }
+{
+    if past_of(b, crumbs, slot, mini, low) == slot {
+        return false;
+    }
+    low_of(b, crumbs, slot) <= low
+}
+
+// The same for a key in a front bucket.
+pub fn holds_front(b: &[u8], slot: usize, key: u32) -> bool
+    requires { ⌜ SoundFront (now b) × (key < keys layout1) × (slot ≡ below key (frontList (now b))) ⌝ }
+    ensures { λ r. ⌜ r ≡ ltb 0 (copies key (frontList (now (b .entry)))) ⌝ }
+{
+    holds_in(b, false, slot, key / 65_536, key % 65_536)
 }
 
 // How many members a bucket holds, front or backyard.

@@ -1,14 +1,15 @@
 -- `deletion::delete::delete_at` meets its contract. A copy leaves the front bucket, or the delete goes on behind it.
-use mathlib.Core.Path.{_≡_, refl}
+use mathlib.Core.Path.{_≡_, refl, sym, _∙_}
 use Prim.Native.Nat.{_<_}
 use native.Mathlib.Omega.{arith}
 use lib.ListN.{length}
+use lib.Dec.{ltb}
 use borrow.Author.Needs.{needs}
+use borrow.Author.Tests.{ltb-true, ltb-false, not-true, not-false}
 use Rattle.multiset.specs.Multisets.{below, copies}
 use Rattle.image.specs.ImageReads.{inFront, FrontRead, At}
 use Rattle.machine.specs.Machine.{deleteAt}
 use Rattle.image.proofs.ImageReadLaws.{front-in, front-read, below-at, front-full, front-unsound, changes}
-use Rattle.deletion.proofs.LeavingLaws.{above-zero}
 use Rattle.deletion.proofs.DeleteSteps.{delete-short}
 use Rattle.deletion.proofs.delete.delete_at.Statement.{statement}
 use Rattle.deletion.proofs.delete.delete_at.Tie as tie
@@ -47,27 +48,29 @@ front c =
 bucket-requires : tie.Need-bucket-requires
 bucket-requires c κs = front (c .before) .0 .inside
 
-copies-front-requires : tie.Need-copies-front-requires
-copies-front-requires c κs =
+holds-front-requires : tie.Need-holds-front-requires
+holds-front-requires c κs =
     let known = c .before .before in
     let s = known .before .before .before .before .before .before .before in
     let r = front known in
     rw (c .bucket .ensures .0) (r .0 .sound, s .pre .key, r .2)
 
--- the copies in front
-near : (c : tie.After-copies-front) →
+-- whether a copy stands in front
+near : (c : tie.After-holds-front) →
     let s = c .before .before .before .before .before .before .before .before .before .before in
     let t = s .args .target in
-    c .copies-front .result ≡ copies (t .key) (inFront (t .front .0) (s .args .image .now))
-near c = rw (c .before .bucket .ensures .0) at (c .copies-front .ensures)
+    c .holds-front .result ≡ ltb 0 (copies (t .key) (inFront (t .front .0) (s .args .image .now)))
+near c = rw (c .before .bucket .ensures .0) at (c .holds-front .ensures)
 
 delete-other-requires : tie.Need-delete-other-requires
 delete-other-requires c κs =
     let c2 = c .before .before in
     let known = c2 .before .before .before in
     let s = known .before .before .before .before .before .before .before in
+    let t = s .args .target in
     let r = front known in
-    record { placed = s .pre; read = r .0; many = r .1; absent = omega (arith, near c2) }
+    let none = ltb-false 0 (copies (t .key) (inFront (t .front .0) (s .args .image .now))) (sym (near c2) ∙ not-true _ (c .before .if1 .taken)) in
+    record { placed = s .pre; read = r .0; many = r .1; absent = omega (arith, none) }
 
 same-length-2 : tie.Need-same-length-2
 same-length-2 c = search needs
@@ -80,7 +83,7 @@ there : (c : tie.Else1) →
     let s = c .before .before .before .before .before .before .before .before .before .before .before in
     let t = s .args .target in
     0 < copies (t .key) (inFront (t .front .0) (s .args .image .now))
-there c = rw (near (c .before)) at (above-zero _ (c .if1 .left))
+there c = ltb-true _ _ (sym (near (c .before)) ∙ not-false _ (c .if1 .left))
 
 here : (c : tie.Else1) →
     let s = c .before .before .before .before .before .before .before .before .before .before .before in
@@ -128,7 +131,7 @@ delete-at-spec =
     same-length
     returns
     bucket-requires
-    copies-front-requires
+    holds-front-requires
     delete-other-requires
     same-length-2
     returns-2

@@ -1,4 +1,4 @@
--- `find::copies_back` meets its contract: a member is its mini-bucket and the rest.
+-- `minifilter::find::copies_back` meets its contract: a member is its mini-bucket and the rest.
 use native.Mathlib.Nat.{div-add-mod'}
 use native.Mathlib.Omega.{arith}
 use Rattle.minifilter.proofs.find.copies_back.Statement.{statement}
@@ -7,7 +7,7 @@ use Rattle.minifilter.proofs.find.copies_back.Tie as tie
 copies-in-requires : tie.Need-copies-in-requires
 copies-in-requires c κs =
     let s = c .before in
-    (s .pre .0, omega (arith, s .pre .1), omega arith, rw (div-add-mod' (s .args .member) 1048576) (s .pre .2))
+    record { sound = s .pre .0; mini = omega (arith, s .pre .1); low = omega arith; rank = rw (div-add-mod' (s .args .member) 1048576) (s .pre .2) }
 
 returns : tie.Need-returns
 returns c = rw (div-add-mod' (c .before .before .args .member) 1048576) at (c .copies-in .ensures)
