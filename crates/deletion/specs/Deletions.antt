@@ -19,6 +19,7 @@ use Rattle.deletion.specs.declared.Leaving.{Leaving}
 use Rattle.deletion.specs.declared.Leaving.the-variants as W
 use Rattle.image.specs.ImageReads.{inFront, inBack, Placed, FrontRead, BackRead, At, FrontFull}
 
+-- a delete at a target, as the machine has it
 abbrev pub DeletesAt : Target → List ℕ → Changed → List ℕ → Type 0
 DeletesAt t old r new = Changes (deleteAt layout1 (t .size) (t .front .0) (t .key) old) old r new
 

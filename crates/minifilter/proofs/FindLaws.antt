@@ -1,5 +1,5 @@
 -- Where a member stands in a sound bucket: what its word and slots hold of its members, and what a scan of one mini-bucket's slots finds.
--- Main results, for front and backyard alike: held, rank-scanned, copies-scanned.
+-- Main results, for front and backyard alike: held, rank-scanned, copies-scanned, holds-test.
 use mathlib.Core.Path.{_≡_, refl, sym, ap, ap₂, _∙_}
 use Prim.Native.Nat.{ℕ, zero, suc, _+_, _*_, _/_, _%_, _-_, _^_, _≤_, _<_}
 use mathlib.Core.Bool.{Bool, true, false}

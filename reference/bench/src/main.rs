@@ -106,7 +106,7 @@ fn table(setting: Setting, all: &[Times]) -> String {
 
 const NOTES: &str = "\
 Medians over rounds. In a round every implementation makes the same call on the same inputs in \
-turn, each on its own buffers, which begin at a cache line; the order of turns changes from round to round, and a first round \
+turn, each on its own buffers, which begin at a page; the order of turns changes from round to round, and a first round \
 is not counted. Before each timed batch the buffers are warmed by as many asks for other random \
 hashes, for every implementation in the same way. All are built for \
 release for the plain instruction set of the processor family. Only ratios within one run mean \
