@@ -7,12 +7,14 @@
 //! is for `compare`: it names its calls, and times the one whose number comes on standard input,
 //! again and again; its buffers are files of FOLDER.
 
+mod inputs;
 mod lines;
 mod measure;
 mod plot;
 mod subject;
 
-use measure::{Effort, Rounds, Setting, Times, Who, CALLS, ON_HASHES};
+use inputs::Setting;
+use measure::{Effort, Rounds, Times, Who, CALLS, ON_HASHES};
 use plot::{Panel, Series};
 use std::collections::BTreeMap;
 use std::fs::File;

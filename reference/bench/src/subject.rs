@@ -1,7 +1,7 @@
 //! What is timed: the implementations of the catalogue, and a hash map as a counting multiset.
 
+use crate::inputs::sources;
 use crate::lines::Lines;
-use crate::measure::sources;
 use model::catalogue::Catalogue;
 use std::collections::HashMap;
 use std::fs::File;

@@ -8,12 +8,11 @@ export CAPI_LIB_DIR
 cd "$(dirname "$0")"
 mkdir -p target
 
-"${CC:-cc}" -std=c99 -O2 -Wall -Wextra -Werror -I ../include examples/day.c \
+"${CC:-cc}" -std=c99 -O2 -Wall -Wextra -Werror -I ../include c/day.c \
     "$CAPI_LIB_DIR/libcapi.a" -o target/day-c
 target/day-c | tee target/day-c.txt
 
-cargo build --quiet --release -p breadcrumb --example day
-target/release/examples/day > target/day-rust.txt
+cargo run --offline --quiet --release --manifest-path rust/Cargo.toml --example day > target/day-rust.txt
 
 cmp target/day-c.txt target/day-rust.txt
 echo "C and Rust print the same"
