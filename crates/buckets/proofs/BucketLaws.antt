@@ -9,10 +9,11 @@ use lib.ListN.{length, drop, replicate, length-append, length-drop, take-append-
 use lib.Seq.{take-all, drop-at}
 use lib.Dec.{T, lit<, lit≤}
 use Rattle.multiset.specs.Multisets.{ascending, allZero, Below}
-use Rattle.multiset.specs.Digits.{spread, grouped, padded, joined, highs, lows}
+use Rattle.multiset.specs.Digits.{padded, joined, highs, lows, spread}
 use Rattle.crumbmap.specs.Layouts.{Layout, keys, layout1}
-use Rattle.buckets.specs.Buckets.{FrontList, BackList, Fits64, given, valid, slotEnd, slotBytes, slotKeys, frontBytes, backBytes, frontMembers, backMembers}
-use Rattle.multiset.proofs.DigitLaws.{below-drop, below-spread, length-spread, length-grouped, grouped-spread, spread-grouped, length-padded, padded-rest, padded-take, below-padded, length-highs, length-lows, below-highs, below-lows, ascending-highs, length-joined, highs-joined, below-joined, joined-padded, padded-unused, padded-joined}
+use Rattle.buckets.specs.Buckets.{FrontList, BackList, Fits64, given, valid, slotEnd, crumbRoom, crumbBytes, crumbsIn, slotBytes, slotKeys, frontBytes, backBytes, frontMembers, backMembers, frontList, backList}
+use Rattle.multiset.proofs.DigitLaws.{below-spread, length-spread, grouped-spread, spread-grouped, length-padded, padded-rest, padded-take, below-padded, length-highs, length-lows, below-highs, below-lows, ascending-highs, length-joined, highs-joined, below-joined, joined-padded, padded-unused, padded-joined, length-grouped}
+use Rattle.multiset.proofs.MultisetLaws.{below-drop}
 use Rattle.buckets.proofs.SlotBytes.{given-true, given-some, length-slotBytes, slotKeys-slotBytes, slotBytes-slotKeys, slotKeys-list}
 
 -- ---- a bucket that was read, by the tests that it passed
@@ -21,13 +22,6 @@ pub record ReadFront (L : Layout) (b xs : List ℕ) : Type 0 where
   pub slots : slotKeys L (L .frontSlots) b ≡ some xs
   pub order : T (ascending xs)
   pub zeros : T (allZero (drop (slotEnd L (L .frontSlots)) b))
-
--- the crumbs in the bytes past word and tags, and how many bytes those are
-abbrev pub crumbsIn : Layout → List ℕ → List ℕ
-crumbsIn L b = spread 16 2 (drop (slotEnd L (L .backSlots)) b)
-
-abbrev pub crumbRoom : Layout → ℕ
-crumbRoom L = 64 - slotEnd L (L .backSlots)
 
 pub record ReadBack (L : Layout) (B j : ℕ) (b ys : List ℕ) : Type 0 where
   pub keysIn : List ℕ
@@ -82,9 +76,31 @@ module _ (L : Layout) where
       let found : (xs : List ℕ) × (slotKeys L (L .backSlots) b ≡ some xs) × (_ ≡ some ys) = bind-eq-some-iff _ _ .0 e in
       back-checked B j b ys (joined 16 (found .0) (crumbsIn L b)) (found .0) refl (found .1) (found .2)
 
+  -- ---- the members of a sound bucket are those that its list lists
+
+  pub frontList-members : (b xs : List ℕ) → frontMembers L b ≡ some xs → frontList L b ≡ xs
+  unfolding frontList
+  frontList-members b xs e = rw e
+
+  pub backList-members : (B j : ℕ) (b ys : List ℕ) → backMembers L B j b ≡ some ys → backList L b ≡ ys
+  unfolding backList
+  backList-members B j b ys e = let r = read-back B j b ys e in rw (r .slots) (r .members)
+
 -- the layout of document 01
 pub fits1 : Fits64 layout1
 fits1 = record { minis = lit< tt; slots = lit< tt; front = lit≤ tt; back = lit≤ tt }
+
+-- ---- the bytes behind word and tags
+
+module _ (L : Layout) (b : List ℕ) where
+  length-rest : length b ≡ 64 → length (drop (slotEnd L (L .backSlots)) b) ≡ crumbRoom L
+  length-rest l = rw (length-drop (slotEnd L (L .backSlots)) b, l)
+
+  pub length-crumbsIn : length b ≡ 64 → length (crumbsIn L b) ≡ crumbRoom L * 2
+  length-crumbsIn l = rw (length-spread 16 2 (drop (slotEnd L (L .backSlots)) b), length-rest l)
+
+  pub below-crumbsIn : Below 16 (crumbsIn L b)
+  below-crumbsIn = below-spread 16 2 (drop (slotEnd L (L .backSlots)) b) (omega arith)
 
 module _ (L : Layout) (fits : Fits64 L) where
   -- ---- lengths
@@ -94,7 +110,7 @@ module _ (L : Layout) (fits : Fits64 L) where
   length-frontBytes xs h =
       length-padded 64 (slotBytes L (L .frontSlots) xs) (omega (arith, length-slotBytes L (L .frontSlots) xs h, fits .front))
 
-  length-backSlots : (ys : List ℕ) → length ys ≤ L .backSlots → length (slotBytes L (L .backSlots) (highs 16 ys)) ≡ slotEnd L (L .backSlots)
+  pub length-backSlots : (ys : List ℕ) → length ys ≤ L .backSlots → length (slotBytes L (L .backSlots) (highs 16 ys)) ≡ slotEnd L (L .backSlots)
   length-backSlots ys h = length-slotBytes L (L .backSlots) (highs 16 ys) (omega (arith, length-highs 16 ys))
 
   pub length-backBytes : (ys : List ℕ) → length ys ≤ L .backSlots → length (backBytes L ys) ≡ 64
@@ -102,7 +118,7 @@ module _ (L : Layout) (fits : Fits64 L) where
   length-backBytes ys h = omega (
     arith,
     length-append (slotBytes L (L .backSlots) (highs 16 ys))
-        (grouped 16 2 (crumbRoom L) (padded (crumbRoom L * 2) (lows 16 ys))),
+        (crumbBytes L ys),
     length-backSlots ys h,
     length-grouped 16 2 (crumbRoom L) (padded (crumbRoom L * 2) (lows 16 ys)),
     fits .back,
@@ -120,21 +136,22 @@ module _ (L : Layout) (fits : Fits64 L) where
         zeros = padded-rest 64 (slotEnd L (L .frontSlots)) s (length-slotBytes L (L .frontSlots) xs (h .room));
       })
 
-  crumbsIn-backBytes : (ys : List ℕ) → length ys ≤ L .backSlots → crumbsIn L (backBytes L ys) ≡ padded (crumbRoom L * 2) (lows 16 ys)
-  unfolding backBytes
-  crumbsIn-backBytes ys h =
+  pub spread-crumbBytes : (ys : List ℕ) → length ys ≤ L .backSlots → spread 16 2 (crumbBytes L ys) ≡ padded (crumbRoom L * 2) (lows 16 ys)
+  spread-crumbBytes ys h =
       let cs : List ℕ = padded (crumbRoom L * 2) (lows 16 ys) in
       let long : length cs ≡ crumbRoom L * 2 = length-padded (crumbRoom L * 2) (lows 16 ys) (omega (arith, length-lows 16 ys, fits .back)) in
-      rw (
-        drop-at (slotBytes L (L .backSlots) (highs 16 ys)) (grouped 16 2 (crumbRoom L) cs) (slotEnd L (L .backSlots)) (length-backSlots ys h),
-        spread-grouped 16 2 (crumbRoom L) cs (below-padded 16 (crumbRoom L * 2) (lows 16 ys) (omega arith) (below-lows 16 ys (omega arith))) (omega arith),
-      )
+      rw (spread-grouped 16 2 (crumbRoom L) cs (below-padded 16 (crumbRoom L * 2) (lows 16 ys) (omega arith) (below-lows 16 ys (omega arith))) (omega arith))
       (take-all (crumbRoom L * 2) cs (omega arith))
+
+  pub crumbsIn-backBytes : (ys : List ℕ) → length ys ≤ L .backSlots → crumbsIn L (backBytes L ys) ≡ padded (crumbRoom L * 2) (lows 16 ys)
+  unfolding backBytes
+  crumbsIn-backBytes ys h =
+      rw (drop-at (slotBytes L (L .backSlots) (highs 16 ys)) (crumbBytes L ys) (slotEnd L (L .backSlots)) (length-backSlots ys h)) (spread-crumbBytes ys h)
 
   slotKeys-backBytes : (B j : ℕ) (ys : List ℕ) → BackList L B j ys → slotKeys L (L .backSlots) (backBytes L ys) ≡ some (highs 16 ys)
   unfolding backBytes
   slotKeys-backBytes B j ys h =
-      slotKeys-slotBytes L (L .backSlots) (highs 16 ys) (grouped 16 2 (crumbRoom L) (padded (crumbRoom L * 2) (lows 16 ys)))
+      slotKeys-slotBytes L (L .backSlots) (highs 16 ys) (crumbBytes L ys)
       (ascending-highs 16 ys (omega arith) (h .order)) (below-highs (keys L) 16 ys (omega arith) (h .range)) (omega (arith, length-highs 16 ys, h .room))
 
   pub backMembers-backBytes : (B j : ℕ) (ys : List ℕ) → BackList L B j ys → backMembers L B j (backBytes L ys) ≡ some ys
@@ -164,15 +181,11 @@ module _ (L : Layout) (fits : Fits64 L) where
       (padded-take 64 (slotEnd L (L .frontSlots)) b l (fits .front) (r .zeros))
 
   module _ (B j : ℕ) (b ys : List ℕ) (bytes : Below 256 b) (l : length b ≡ 64) (r : ReadBack L B j b ys) where
-    -- the bytes past word and tags
-    length-rest : length (drop (slotEnd L (L .backSlots)) b) ≡ crumbRoom L
-    length-rest = rw (length-drop (slotEnd L (L .backSlots)) b, l)
+    many : length (crumbsIn L b) ≡ crumbRoom L * 2
+    many = length-crumbsIn L b l
 
-    length-crumbsIn : length (crumbsIn L b) ≡ crumbRoom L * 2
-    length-crumbsIn = rw (length-spread 16 2 (drop (slotEnd L (L .backSlots)) b), length-rest)
-
-    below-crumbsIn : Below 16 (crumbsIn L b)
-    below-crumbsIn = below-spread 16 2 (drop (slotEnd L (L .backSlots)) b) (omega arith)
+    small : Below 16 (crumbsIn L b)
+    small = below-crumbsIn L b
 
     keysIn-list : Below (keys L) (r .keysIn) × (length (r .keysIn) ≤ L .backSlots)
     keysIn-list = slotKeys-list L (L .backSlots) b (r .keysIn) bytes (omega (arith, fits .back)) (r .slots)
@@ -183,18 +196,18 @@ module _ (L : Layout) (fits : Fits64 L) where
     back-list : BackList L B j ys
     back-list = record {
       order = r .order;
-      range = rw (← r .members) (below-joined (keys L) 16 (r .keysIn) (crumbsIn L b) (keysIn-list .0) below-crumbsIn);
-      room = rw (← r .members) (omega (arith, length-joined 16 (r .keysIn) (crumbsIn L b) (omega (arith, length-crumbsIn, keysIn-room)), keysIn-list .1));
+      range = rw (← r .members) (below-joined (keys L) 16 (r .keysIn) (crumbsIn L b) (keysIn-list .0) small);
+      room = rw (← r .members) (omega (arith, length-joined 16 (r .keysIn) (crumbsIn L b) (omega (arith, many, keysIn-room)), keysIn-list .1));
       crumbs = r .crumbs;
     }
 
     highs-back : highs 16 ys ≡ r .keysIn
-    highs-back = rw (← r .members) (highs-joined 16 (r .keysIn) (crumbsIn L b) (omega (arith, length-crumbsIn, keysIn-room)) below-crumbsIn)
+    highs-back = rw (← r .members) (highs-joined 16 (r .keysIn) (crumbsIn L b) (omega (arith, many, keysIn-room)) small)
 
-    crumbs-back : grouped 16 2 (crumbRoom L) (padded (crumbRoom L * 2) (lows 16 ys)) ≡ drop (slotEnd L (L .backSlots)) b
+    crumbs-back : crumbBytes L ys ≡ drop (slotEnd L (L .backSlots)) b
     crumbs-back =
-        rw (← r .members, padded-joined 16 (crumbRoom L * 2) (r .keysIn) (crumbsIn L b) length-crumbsIn keysIn-room below-crumbsIn (r .zeros))
-        (rw (length-rest, append-nil (crumbsIn L b)) at
+        rw (← r .members, padded-joined 16 (crumbRoom L * 2) (r .keysIn) (crumbsIn L b) many keysIn-room small (r .zeros))
+        (rw (length-rest L b l, append-nil (crumbsIn L b)) at
         (grouped-spread 16 2 (drop (slotEnd L (L .backSlots)) b) [] (omega arith) (below-drop 256 (slotEnd L (L .backSlots)) b bytes)))
 
     back-bytes : backBytes L ys ≡ b

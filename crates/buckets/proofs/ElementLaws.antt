@@ -1,17 +1,17 @@
--- The element at a place of a list of digits that is grouped into numbers, or of numbers that are spread into digits.
--- Main results: `grouped-at`, `spread-at`, and of a bucket's bytes `tag-at`, `crumb-at`.
+-- The element at a place of a list of digits that is grouped into numbers, of numbers that are spread into digits, or of two lists joined.
+-- Main results: `grouped-at`, `spread-at`, `joined-at`, and of bytes `two-bytes`, `half-of`.
 use mathlib.Core.Path.{_≡_, refl, sym, _∙_}
 use Prim.Native.Nat.{ℕ, zero, suc, _+_, _*_, _/_, _%_, _^_, _<_}
+use mathlib.Core.List.{List, [], _∷_}
 use native.Mathlib.Nat.{suc-mul, zero-mul, zero-add, add-comm, add-zero, div-one}
 use native.Mathlib.Numerals.{add-one}
 use native.Mathlib.Omega.{arith}
-use mathlib.Core.List.{List, [], _∷_}
 use lib.ListN.{length, take, drop, getD, length-drop, List·getD-append}
 use lib.Seq.{drop-cons, drop-drop, getD-drop, getD-append-add}
 use mir.Syntax.{w8}
 use mir.Val.{Fits}
 use Rattle.multiset.specs.Multisets.{Below}
-use Rattle.multiset.specs.Digits.{digits, value, spread, grouped}
+use Rattle.multiset.specs.Digits.{digits, value, spread, grouped, joined}
 use Rattle.multiset.proofs.DigitLaws.{length-digits}
 
 -- the bytes of a slice
@@ -44,20 +44,31 @@ half-at v zero h = rw (div-one v)
 half-at v (suc zero) h = refl
 half-at v (suc (suc i)) h = absurd (omega arith)
 
-module _ (b : List ℕ) (long : length b ≡ 64) (slot : ℕ) where
-  pub tag-at : slot < 28 → getD b (8 + 2 * slot) 0 + 256 * getD b (8 + 2 * slot + 1) 0 ≡ getD (grouped 256 2 28 (drop 8 b)) slot 0
-  unfolding value
-  tag-at h =
-      let at = 8 + 2 * slot in
-      let e : 8 + slot * 2 ≡ at = omega arith in
-      let l : at < length b = omega arith in
-      let k : suc at < length b = omega arith in
-      sym (grouped-at 256 2 28 (drop 8 b) slot h
-      ∙ rw (drop-drop (slot * 2) 8 b, e, drop-cons b at 0 l, drop-cons b (suc at) 0 k, add-one at, add-zero (getD b (suc at) 0)))
+-- the half at a slot of the halves behind byte `from`, as code finds it
+pub half-of : (from slot : ℕ) (b : List ℕ) → from + slot / 2 < length b
+    → getD b (from + slot / 2) 0 / 2 ^ (slot % 2 * 4) % 16 ≡ getD (spread 16 2 (drop from b)) slot 0
+half-of from slot b h =
+    let e : slot / 2 * 2 + slot % 2 ≡ slot = omega arith in
+    let at = spread-at 16 2 (drop from b) (slot / 2) (slot % 2) (omega (arith, length-drop from b)) (omega arith) in
+    half-at (getD b (from + slot / 2) 0) (slot % 2) (omega arith) ∙ sym (rw (e, getD-drop from b (slot / 2) 0) at at)
 
-  pub crumb-at : slot < 22 → getD b (52 + slot / 2) 0 / 2 ^ (slot % 2 * 4) % 16 ≡ getD (spread 16 2 (drop 52 b)) slot 0
-  crumb-at h =
-      let e : slot / 2 * 2 + slot % 2 ≡ slot = omega arith in
-      let d : length (drop 52 b) ≡ 12 = rw (length-drop 52 b, long) in
-      let at = spread-at 16 2 (drop 52 b) (slot / 2) (slot % 2) (omega arith) (omega arith) in
-      half-at (getD b (52 + slot / 2) 0) (slot % 2) (omega arith) ∙ sym (rw (e, getD-drop 52 b (slot / 2) 0) at at)
+-- two bytes as one number
+pub two-bytes : (at : ℕ) (b : List ℕ) → at + 1 < length b → getD b at 0 + 256 * getD b (at + 1) 0 ≡ value 256 (take 2 (drop at b))
+unfolding value
+two-bytes at b h =
+    let k : suc at < length b = omega arith in
+    sym (rw (drop-cons b at 0 (omega arith), drop-cons b (suc at) 0 k, add-one at, add-zero (getD b (suc at) 0)))
+
+-- ---- lists of parts
+
+pub joined-at : (k : ℕ) (ms rs : List ℕ) (s : ℕ) → s < length ms → s < length rs → getD (joined k ms rs) s 0 ≡ getD ms s 0 * k + getD rs s 0
+unfolding joined
+joined-at k [] rs s h l = absurd (omega arith)
+joined-at k (m ∷ ms) [] s h l = absurd (omega arith)
+joined-at k (m ∷ ms) (r ∷ rs) zero h l = refl
+joined-at k (m ∷ ms) (r ∷ rs) (suc s) h l = joined-at k ms rs s (omega arith) (omega arith)
+
+pub below-at : (k i : ℕ) (l : List ℕ) → 0 < k → Below k l → getD l i 0 < k
+below-at k i [] p b = p
+below-at k zero (x ∷ xs) p b = b .0
+below-at k (suc i) (x ∷ xs) p b = below-at k i xs p (b .1)

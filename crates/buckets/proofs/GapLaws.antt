@@ -2,9 +2,9 @@
 -- Main results: `gaps-word` (a word's complement), and of the zeros from slot s on `gap-place` (the lowest), `gap-next` (all but it).
 use mathlib.Core.Path.{_≡_, sym, _∙_, ap}
 use Prim.Native.Nat.{ℕ, zero, suc, _+_, _*_, _-_, _/_, _%_, _^_, _≤_, _<_}
+use mathlib.Core.List.{List, [], _∷_, _++_}
 use native.Mathlib.Nat.{add-suc, suc-add, add-zero, zero-add, mul-one, zero-mul, one-mul, mul-assoc, mul-comm, mul-add, add-mul, pow-suc, mod-self}
 use native.Mathlib.Omega.{arith}
-use mathlib.Core.List.{List, [], _∷_, _++_}
 use lib.ListN.{length, drop, getD, replicate}
 use lib.Seq.{drop-cons}
 use lib.Pow.{pow-pos, pow-add, pow-lt}

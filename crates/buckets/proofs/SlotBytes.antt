@@ -5,20 +5,21 @@ use Prim.Native.Nat.{ℕ, zero, suc, _+_, _*_, _^_, _≤_, _<_}
 use mathlib.Core.Bool.{Bool, true, false}
 use mathlib.Core.List.{List, [], _∷_, _++_, append-assoc}
 use mathlib.Core.Option.{Option, some, bind, bind-eq-some-iff}
-use native.Mathlib.Nat.{zero-add, pow-suc, pow-le-pow-right, lt-of-lt-of-le}
+use native.Mathlib.Nat.{zero-add, pow-suc}
 use native.Mathlib.Omega.{arith}
 use lib.ListN.{length, take, drop, length-append, length-drop}
 use lib.Seq.{length-take-le, take-at, drop-at, take-add}
 use lib.Pow.{pow-add, pow-pos}
 use lib.Dec.{T, leb, leb→le, le→leb}
 use Rattle.multiset.specs.Multisets.{ascending, allZero, Below}
-use Rattle.multiset.specs.Digits.{digits, value, spread, grouped, padded, joined, highs, lows}
+use Rattle.multiset.specs.Digits.{padded, joined, highs, lows}
 use Rattle.crumbmap.specs.Layouts.{Layout, tags, keys, wordBytes}
 use Rattle.buckets.specs.Words.{wordFrom, minisFrom}
-use Rattle.buckets.specs.Buckets.{given, slotEnd, slotBytes, slotKeys}
-use Rattle.multiset.proofs.MultisetLaws.{ascending-tail, ascending-le, ascending-cons}
-use Rattle.multiset.proofs.DigitLaws.{below-take, below-drop, length-digits, value-digits, digits-value, length-spread, length-grouped, grouped-spread, spread-grouped, below-grouped, length-padded, below-padded, length-highs, length-lows, below-highs, below-lows, ascending-highs, length-joined, highs-joined, below-joined, joined-padded, padded-unused, padded-joined}
-use Rattle.buckets.proofs.WordLaws.{Run, Coded, coded-word, coded-unique, coded-run, minis-coded, coded-minis, coded-lt}
+use Rattle.buckets.specs.Buckets.{wordPart, tagPart, given, slotEnd, slotBytes, slotKeys, wordIn, tagsIn}
+use Rattle.multiset.proofs.OrderLaws.{ascending-tail, ascending-le, ascending-cons}
+use Rattle.multiset.proofs.DigitLaws.{length-digits, value-digits, digits-value, length-spread, length-grouped, grouped-spread, spread-grouped, below-grouped, length-padded, below-padded, length-highs, length-lows, below-highs, below-lows, ascending-highs, length-joined, highs-joined, below-joined, joined-padded, padded-unused, padded-joined}
+use Rattle.multiset.proofs.MultisetLaws.{below-take, below-drop}
+use Rattle.buckets.proofs.WordLaws.{Run, run-below, Coded, coded-word, coded-unique, coded-run, minis-coded, coded-minis, word-lt}
 
 -- ---- a test in front of an answer
 
@@ -38,10 +39,6 @@ run-ascending : (lo hi : ℕ) (ms : List ℕ) → T (ascending (lo ∷ ms)) → 
 run-ascending lo hi [] a b = tt
 run-ascending lo hi (m ∷ ms) a b = (ascending-le lo m ms a, b .0, run-ascending m hi ms (ascending-tail lo (m ∷ ms) a) (b .1))
 
-below-run : (lo hi : ℕ) (ms : List ℕ) → Run lo hi ms → Below hi ms
-below-run lo hi [] r = tt
-below-run lo hi (m ∷ ms) r = (r .1, below-run m hi ms (r .2))
-
 -- a byte is 8 bits
 pub bytes-pow : (n : ℕ) → 256 ^ n ≡ 2 ^ (8 * n)
 bytes-pow zero = refl
@@ -50,19 +47,6 @@ bytes-pow (suc n) =
     rw (eight, pow-add 2 (8 * n) 8, pow-suc 256 n, bytes-pow n)
 
 -- ---- what is read off bytes
-
-abbrev pub wordIn : Layout → ℕ → List ℕ → ℕ
-wordIn L slots b = value 256 (take (wordBytes L slots) b)
-
-abbrev pub tagsIn : Layout → ℕ → List ℕ → List ℕ
-tagsIn L slots b = grouped 256 (L .tagBytes) slots (drop (wordBytes L slots) b)
-
--- the word's bytes and the tags' bytes of keys
-abbrev wordPart : Layout → ℕ → List ℕ → List ℕ
-wordPart L slots xs = digits 256 (wordBytes L slots) (wordFrom (L .minis) 0 (highs (tags L) xs))
-
-abbrev tagPart : Layout → ℕ → List ℕ → List ℕ
-tagPart L slots xs = spread 256 (L .tagBytes) (padded slots (lows (tags L) xs))
 
 -- keys that were read, by the tests that their bytes passed
 pub record Read (L : Layout) (slots : ℕ) (b xs : List ℕ) : Type 0 where
@@ -73,18 +57,12 @@ pub record Read (L : Layout) (slots : ℕ) (b xs : List ℕ) : Type 0 where
   pub keys : joined (tags L) minis (tagsIn L slots b) ≡ xs
 
 module _ (L : Layout) (slots : ℕ) where
-  tags-pos : 0 < tags L
+  pub tags-pos : 0 < tags L
   tags-pos = pow-pos (8 * L .tagBytes)
 
   -- the word has a bit for each mini-bucket and slot
-  word-room : (xs : List ℕ) → length xs ≤ slots → L .minis + length (highs (tags L) xs) ≤ 8 * wordBytes L slots
+  pub word-room : (xs : List ℕ) → length xs ≤ slots → L .minis + length (highs (tags L) xs) ≤ 8 * wordBytes L slots
   word-room xs h = omega (arith, length-highs (tags L) xs)
-
-  abbrev WordOf : List ℕ → Type 0
-  WordOf xs = Coded (L .minis) 0 (highs (tags L) xs) (wordFrom (L .minis) 0 (highs (tags L) xs))
-
-  word-lt : (xs : List ℕ) → length xs ≤ slots → WordOf xs → wordFrom (L .minis) 0 (highs (tags L) xs) < 256 ^ wordBytes L slots
-  word-lt xs h c = rw (bytes-pow (wordBytes L slots)) (lt-of-lt-of-le (coded-lt c) (pow-le-pow-right {n = 2} (omega arith) (word-room xs h)))
 
   pub run-highs : (xs : List ℕ) → T (ascending xs) → Below (keys L) xs → Run 0 (L .minis) (highs (tags L) xs)
   run-highs xs a b =
@@ -92,16 +70,26 @@ module _ (L : Layout) (slots : ℕ) where
       run-ascending 0 (L .minis) ms (ascending-cons 0 ms (λ z h. omega arith) (ascending-highs (tags L) xs tags-pos a))
       (below-highs (L .minis) (tags L) xs tags-pos b)
 
-  length-word : (xs : List ℕ) → length (wordPart L slots xs) ≡ wordBytes L slots
+  pub slots-coded : (xs : List ℕ) → T (ascending xs) → Below (keys L) xs
+      → Coded (L .minis) 0 (highs (tags L) xs) (wordFrom (L .minis) 0 (highs (tags L) xs))
+  slots-coded xs a b = coded-word (L .minis) 0 (highs (tags L) xs) (rw (zero-add (L .minis)) (run-highs xs a b))
+
+  slots-lt : (xs : List ℕ) → T (ascending xs) → Below (keys L) xs → length xs ≤ slots → wordFrom (L .minis) 0 (highs (tags L) xs) < 256 ^ wordBytes L slots
+  slots-lt xs a b h =
+      rw (bytes-pow (wordBytes L slots)) (word-lt (8 * wordBytes L slots) (L .minis) (highs (tags L) xs) (run-highs xs a b) (word-room xs h))
+
+  pub length-word : (xs : List ℕ) → length (wordPart L slots xs) ≡ wordBytes L slots
   length-word xs = length-digits 256 (wordBytes L slots) (wordFrom (L .minis) 0 (highs (tags L) xs))
 
   length-tags : (xs : List ℕ) → length xs ≤ slots → length (padded slots (lows (tags L) xs)) ≡ slots
   length-tags xs h = length-padded slots (lows (tags L) xs) (omega (arith, length-lows (tags L) xs))
 
+  pub length-tagPart : (xs : List ℕ) → length xs ≤ slots → length (tagPart L slots xs) ≡ slots * L .tagBytes
+  length-tagPart xs h = length-spread 256 (L .tagBytes) (padded slots (lows (tags L) xs)) ∙ ap (λ (n : ℕ). n * L .tagBytes) (length-tags xs h)
+
   pub length-slotBytes : (xs : List ℕ) → length xs ≤ slots → length (slotBytes L slots xs) ≡ slotEnd L slots
   unfolding slotBytes
-  length-slotBytes xs h = length-append (wordPart L slots xs) (tagPart L slots xs)
-      ∙ ap₂ _+_ (length-word xs) (length-spread 256 (L .tagBytes) (padded slots (lows (tags L) xs)) ∙ ap (λ (n : ℕ). n * L .tagBytes) (length-tags xs h))
+  length-slotBytes xs h = length-append (wordPart L slots xs) (tagPart L slots xs) ∙ ap₂ _+_ (length-word xs) (length-tagPart xs h)
 
   pub keys-read : (b xs : List ℕ) → Read L slots b xs → slotKeys L slots b ≡ some xs
   unfolding slotKeys bind
@@ -128,16 +116,16 @@ module _ (L : Layout) (slots : ℕ) where
       read-checked b xs (found .0) (found .1) (found .2)
 
   -- the word's bytes and the tags' bytes are read back
-  pub wordIn-slotBytes : (xs rest : List ℕ) → wordFrom (L .minis) 0 (highs (tags L) xs) < 256 ^ wordBytes L slots
+  pub wordIn-slotBytes : (xs rest : List ℕ) → T (ascending xs) → Below (keys L) xs → length xs ≤ slots
       → wordIn L slots (slotBytes L slots xs ++ rest) ≡ wordFrom (L .minis) 0 (highs (tags L) xs)
   unfolding slotBytes
-  wordIn-slotBytes xs rest h =
+  wordIn-slotBytes xs rest a b h =
       let w : ℕ = wordFrom (L .minis) 0 (highs (tags L) xs) in
       rw (
         append-assoc (wordPart L slots xs) (tagPart L slots xs) rest,
         take-at (wordPart L slots xs) (tagPart L slots xs ++ rest) (wordBytes L slots) (length-word xs),
       )
-      (value-digits 256 (wordBytes L slots) w (omega arith) h)
+      (value-digits 256 (wordBytes L slots) w (omega arith) (slots-lt xs a b h))
 
   pub tagsIn-slotBytes : (xs rest : List ℕ) → length xs ≤ slots → tagsIn L slots (slotBytes L slots xs ++ rest) ≡ padded slots (lows (tags L) xs)
   unfolding slotBytes
@@ -154,10 +142,9 @@ module _ (L : Layout) (slots : ℕ) where
   pub slotKeys-slotBytes : (xs rest : List ℕ) → T (ascending xs) → Below (keys L) xs → length xs ≤ slots
       → slotKeys L slots (slotBytes L slots xs ++ rest) ≡ some xs
   slotKeys-slotBytes xs rest a b h =
-      let coded : WordOf xs = coded-word (L .minis) 0 (highs (tags L) xs) (rw (zero-add (L .minis)) (run-highs xs a b)) in
       keys-read (slotBytes L slots xs ++ rest) xs (record {
         minis = highs (tags L) xs;
-        word = rw (wordIn-slotBytes xs rest (word-lt xs h coded)) (minis-coded (8 * wordBytes L slots) coded (word-room xs h));
+        word = rw (wordIn-slotBytes xs rest a b h) (minis-coded (8 * wordBytes L slots) (slots-coded xs a b) (word-room xs h));
         room = omega (arith, length-highs (tags L) xs);
         zeros = rw (tagsIn-slotBytes xs rest h) (padded-unused (tags L) slots xs);
         keys = rw (tagsIn-slotBytes xs rest h) (joined-padded (tags L) slots xs tags-pos);
@@ -165,30 +152,41 @@ module _ (L : Layout) (slots : ℕ) where
 
   -- ---- what stands in bytes that were read
 
+  pub length-tagsIn : (b : List ℕ) → length (tagsIn L slots b) ≡ slots
+  length-tagsIn b = length-grouped 256 (L .tagBytes) slots (drop (wordBytes L slots) b)
+
+  tags-room : (b : List ℕ) → slotEnd L slots ≤ length b → slots * L .tagBytes ≤ length (drop (wordBytes L slots) b)
+  tags-room b long = omega (arith, length-drop (wordBytes L slots) b)
+
+  pub below-tagsIn : (b : List ℕ) → Below 256 b → slotEnd L slots ≤ length b → Below (tags L) (tagsIn L slots b)
+  below-tagsIn b bytes long = rw (bytes-pow (L .tagBytes)) at
+      (below-grouped 256 (L .tagBytes) slots (drop (wordBytes L slots) b) (below-drop 256 (wordBytes L slots) b bytes) (tags-room b long))
+
+  -- the members read are at most the slots
+  read-short : (b xs : List ℕ) → Read L slots b xs → length xs ≤ slots
+  read-short b xs r =
+      rw (← r .keys) (omega (arith, length-joined (tags L) (r .minis) (tagsIn L slots b) (omega (arith, length-tagsIn b, r .room)), r .room))
+
+  pub slotKeys-short : (b xs : List ℕ) → slotKeys L slots b ≡ some xs → length xs ≤ slots
+  slotKeys-short b xs e = read-short b xs (read-keys b xs e)
+
   module _ (b xs : List ℕ) (bytes : Below 256 b) (long : slotEnd L slots ≤ length b) (r : Read L slots b xs) where
     coded-read : Coded (L .minis) 0 (r .minis) (wordIn L slots b)
     coded-read = coded-minis (8 * wordBytes L slots) (L .minis) 0 (wordIn L slots b) (r .minis) (r .word) .0
 
-    tags-room : slots * L .tagBytes ≤ length (drop (wordBytes L slots) b)
-    tags-room = omega (arith, length-drop (wordBytes L slots) b)
-
-    length-tagsIn : length (tagsIn L slots b) ≡ slots
-    length-tagsIn = length-grouped 256 (L .tagBytes) slots (drop (wordBytes L slots) b)
-
-    below-tagsIn : Below (tags L) (tagsIn L slots b)
-    below-tagsIn = rw (bytes-pow (L .tagBytes)) at
-        (below-grouped 256 (L .tagBytes) slots (drop (wordBytes L slots) b) (below-drop 256 (wordBytes L slots) b bytes) tags-room)
+    small : Below (tags L) (tagsIn L slots b)
+    small = below-tagsIn b bytes long
 
     highs-read : highs (tags L) xs ≡ r .minis
-    highs-read = rw (← r .keys) (highs-joined (tags L) (r .minis) (tagsIn L slots b) (omega (arith, length-tagsIn, r .room)) below-tagsIn)
+    highs-read = rw (← r .keys) (highs-joined (tags L) (r .minis) (tagsIn L slots b) (omega (arith, length-tagsIn b, r .room)) small)
 
     word-read : wordPart L slots xs ≡ take (wordBytes L slots) b
     word-read = rw (highs-read, ← coded-unique coded-read) (rw (length-take-le (wordBytes L slots) b (omega arith)) at
         (digits-value 256 (take (wordBytes L slots) b) (below-take 256 (wordBytes L slots) b bytes)))
 
     tags-read : tagPart L slots xs ≡ take (slots * L .tagBytes) (drop (wordBytes L slots) b)
-    tags-read = rw (← r .keys, padded-joined (tags L) slots (r .minis) (tagsIn L slots b) length-tagsIn (r .room) below-tagsIn (r .zeros))
-        (spread-grouped 256 (L .tagBytes) slots (drop (wordBytes L slots) b) (below-drop 256 (wordBytes L slots) b bytes) tags-room)
+    tags-read = rw (← r .keys, padded-joined (tags L) slots (r .minis) (tagsIn L slots b) (length-tagsIn b) (r .room) small (r .zeros))
+        (spread-grouped 256 (L .tagBytes) slots (drop (wordBytes L slots) b) (below-drop 256 (wordBytes L slots) b bytes) (tags-room b long))
 
     bytes-read : slotBytes L slots xs ≡ take (slotEnd L slots) b
     unfolding slotBytes
@@ -196,10 +194,7 @@ module _ (L : Layout) (slots : ℕ) where
 
     range-read : Below (keys L) xs
     range-read = rw (← r .keys) (below-joined (L .minis) (tags L) (r .minis) (tagsIn L slots b)
-        (below-run 0 (L .minis) (r .minis) (rw (zero-add (L .minis)) at (coded-run coded-read))) below-tagsIn)
-
-    room-read : length xs ≤ slots
-    room-read = rw (← r .keys) (omega (arith, length-joined (tags L) (r .minis) (tagsIn L slots b) (omega (arith, length-tagsIn, r .room)), r .room))
+        (run-below 0 (L .minis) (r .minis) (rw (zero-add (L .minis)) at (coded-run coded-read))) small)
 
   pub slotBytes-slotKeys : (b xs : List ℕ) → Below 256 b → slotEnd L slots ≤ length b → slotKeys L slots b ≡ some xs
       → slotBytes L slots xs ≡ take (slotEnd L slots) b
@@ -209,4 +204,4 @@ module _ (L : Layout) (slots : ℕ) where
       → Below (keys L) xs × (length xs ≤ slots)
   slotKeys-list b xs bytes long e =
       let r : Read L slots b xs = read-keys b xs e in
-      (range-read b xs bytes long r, room-read b xs bytes long r)
+      (range-read b xs bytes long r, read-short b xs r)

@@ -1,23 +1,19 @@
--- The word of an ascending list of mini-buckets, for any number of mini-buckets and members: the word and its way back, its ones,
--- its length, and the word with a member put in or taken out at a slot.
+-- The word of an ascending list of mini-buckets, for any number of mini-buckets and members: the word and its way back, its ones and
+-- its length. Main results: `coded-word`, `minis-coded`, `coded-minis`, `ones-coded`, and of a bucket's word `minis-word`, `leading-minisIn`.
 -- The proofs go by induction on `Coded`, which mirrors the bits.
 use mathlib.Core.Path.{_≡_, refl, sym, ap, _∙_, subst}
 use mathlib.Core.Logic.{_⊎_, inl, inr, ⊎-elim}
 use Prim.Native.Nat.{ℕ, zero, suc, _+_, _-_, _*_, _/_, _%_, _^_, _≤_, _<_}
-use mathlib.Core.List.{List, [], _∷_, _++_}
+use mathlib.Core.List.{List, [], _∷_}
 use mathlib.Core.Option.{Option, none, some, Option·map}
-use native.Mathlib.Nat.{zero-add, one-mul, pow-suc, mul-le-mul-right, div-le-self, eq-zero-or-pos, eq-or-lt-of-le}
-use native.Mathlib.Numerals.{add-one}
+use native.Mathlib.Nat.{zero-add, lt-of-lt-of-le, pow-le-pow-right, pow-suc, eq-zero-or-pos, eq-or-lt-of-le}
 use native.Mathlib.Omega.{arith}
-use lib.Dec.{lit<}
-use lib.ListN.{length, take, drop, getD}
-use lib.Seq.{take-nil}
-use lib.Pow.{pow-add, shl-exact, shr-shr, split, mod-pow-add}
+use lib.ListN.{length, getD, take}
 use lib.Count.{ones, leadingZeros, ones-step, leading-unique}
-use borrow.Author.Tests.{lt-ltb, le-ltb, eq-eqb, ne-eqb}
-use Rattle.multiset.specs.Multisets.{below, copies}
-use Rattle.multiset.specs.Digits.{value}
-use Rattle.buckets.specs.Words.{wordFrom, minisFrom, openedAt, closedAt, minisOf}
+use borrow.Author.Tests.{le-ltb, eq-eqb, ne-eqb}
+use Rattle.multiset.specs.Multisets.{below, copies, Below}
+use Rattle.buckets.specs.Words.{wordFrom, minisFrom, listOf, minisIn}
+use Rattle.multiset.proofs.RankLaws.{below-smaller}
 
 -- ascending from lo, each below hi
 abbrev pub Run : ℕ → ℕ → List ℕ → Type 0
@@ -40,6 +36,29 @@ copies-run : (k lo hi : ℕ) (xs : List ℕ) → k < lo → Run lo hi xs → cop
 unfolding copies
 copies-run k lo hi [] h r = refl
 copies-run k lo hi (x ∷ xs) h r = rw (ne-eqb k x (omega arith)) (copies-run k x hi xs (omega arith) (r .2))
+
+pub run-below : (lo hi : ℕ) (xs : List ℕ) → Run lo hi xs → Below hi xs
+run-below lo hi [] r = tt
+run-below lo hi (x ∷ xs) r = (r .1, run-below x hi xs (r .2))
+
+pub run-take : (lo hi n : ℕ) (ms : List ℕ) → Run lo hi ms → Run lo hi (take n ms)
+run-take lo hi zero ms r = tt
+run-take lo hi (suc n) [] r = tt
+run-take lo hi (suc n) (m ∷ ms) r = (r .0, r .1, run-take m hi n ms (r .2))
+
+pub run-at : (lo hi i : ℕ) (ms : List ℕ) → Run lo hi ms → i < length ms → (lo ≤ getD ms i 0) × (getD ms i 0 < hi)
+run-at lo hi i [] r h = absurd (omega arith)
+run-at lo hi zero (m ∷ ms) r h = (r .0, r .1)
+run-at lo hi (suc i) (m ∷ ms) r h = let s = run-at m hi i ms (r .2) (omega arith) in (omega arith, s .1)
+
+-- none in front of a member is larger
+pub run-rank : (lo hi i : ℕ) (ms : List ℕ) → Run lo hi ms → i < length ms → below (suc (getD ms i 0)) (take i ms) ≡ i
+unfolding below
+run-rank lo hi i [] r h = absurd (omega arith)
+run-rank lo hi zero (m ∷ ms) r h = refl
+run-rank lo hi (suc i) (m ∷ ms) r h =
+    let s = run-at m hi i ms (r .2) (omega arith) in
+    below-smaller (suc (getD ms i 0)) m (take i ms) (omega arith) ∙ ap suc (run-rank m hi i ms (r .2) (omega arith))
 
 pub below-run : (k lo hi : ℕ) (xs : List ℕ) → k ≤ lo → Run lo hi xs → below k xs ≡ 0
 unfolding below
@@ -219,6 +238,10 @@ coded-lt (end {n = n} {ms = ms} c) =
     let k : suc n + length ms ≡ suc (n + length ms) = omega arith in
     rw k (omega (arith, coded-lt c))
 
+pub word-lt : (bits minis : ℕ) (ms : List ℕ) → Run 0 minis ms → minis + length ms ≤ bits → wordFrom minis 0 ms < 2 ^ bits
+word-lt bits minis ms r h =
+    lt-of-lt-of-le (coded-lt (coded-word minis 0 ms (rw (zero-add minis) r))) (pow-le-pow-right {n = 2} (omega arith) h)
+
 -- the highest bit of a word is the last mini-bucket's end
 coded-ge : {n m : ℕ} {ms : List ℕ} {w : ℕ} → Coded n m ms w → 2 ^ (n + length ms) ≤ 2 * w + 1
 coded-ge done = omega arith
@@ -235,162 +258,23 @@ pub leading-coded : {n m : ℕ} {ms : List ℕ} {w : ℕ} (bits : ℕ) → 0 < n
 leading-coded {n} {m} {ms} {w} bits p c h =
     omega (arith, leading-unique bits w (bits - (n + length ms)) (n + length ms) (omega arith) (coded-lt c) (coded-ge c))
 
--- ---- a bit put in, and one taken out
+-- ---- the word of a bucket
 
-opened-none : (w : ℕ) → openedAt 0 w ≡ 2 * w
-unfolding openedAt
-opened-none w = omega arith
+pub minisIn-coded : {n : ℕ} {ms : List ℕ} {w : ℕ} (bits : ℕ) → Coded n 0 ms w → n + length ms ≤ bits → minisIn bits n w ≡ ms
+unfolding minisIn
+minisIn-coded bits c h = ap listOf (minis-coded bits c h)
 
-closed-none : (w : ℕ) → closedAt 0 w ≡ w / 2
-unfolding closedAt
-closed-none w = omega arith
+module _ (bits minis w : ℕ) (small : w < 2 ^ bits) (full : ones w ≡ minis) where
+  pub minis-word : minisFrom bits minis 0 w ≡ some (minisIn bits minis w)
+  unfolding minisIn
+  minis-word = let t = minis-ones bits minis 0 w small full in rw (t .1)
 
--- above the lowest bit
-pub shr-suc : (k v : ℕ) → v / 2 ^ suc k ≡ v / 2 / 2 ^ k
-shr-suc k v = let c : suc k ≡ 1 + k = omega arith in rw c (sym (shr-shr v 1 k))
+  pub coded-minisIn : Coded minis 0 (minisIn bits minis w) w × (minis + length (minisIn bits minis w) ≤ bits)
+  coded-minisIn = coded-minis bits minis 0 w (minisIn bits minis w) minis-word
 
-high-up : (k b w : ℕ) → b < 2 → (b + 2 * w) / 2 ^ (k + 1) ≡ w / 2 ^ k
-high-up k b w h = let e : (b + 2 * w) / 2 ≡ w = omega arith in rw (add-one k, shr-suc k (b + 2 * w), e)
+  pub minisIn-run : Run 0 minis (minisIn bits minis w)
+  minisIn-run = rw (zero-add minis) at (coded-run (coded-minisIn .0))
 
-low-up : (k b w : ℕ) → b < 2 → (b + 2 * w) % 2 ^ (k + 1) ≡ b + 2 * (w % 2 ^ k)
-low-up k b w h =
-    let e : (b + 2 * w) / 2 ≡ w = omega arith in
-    mod-pow-add (b + 2 * w) k 1 ∙ rw e (omega arith)
-
-opened-up : (pos b w : ℕ) → b < 2 → openedAt (suc pos) (b + 2 * w) ≡ b + 2 * openedAt pos w
-unfolding openedAt
-opened-up pos b w h = rw (← add-one pos, high-up pos b w h, low-up pos b w h, pow-add 2 (pos + 1) 1) (omega arith)
-
-closed-up : (pos b w : ℕ) → b < 2 → closedAt (suc pos) (b + 2 * w) ≡ b + 2 * closedAt pos w
-unfolding closedAt
-closed-up pos b w h = rw (← add-one pos, high-up (pos + 1) b w h, low-up pos b w h, pow-add 2 pos 1) (omega arith)
-
-opened-even : (pos w : ℕ) → openedAt (suc pos) (2 * w) ≡ 2 * openedAt pos w
-opened-even pos w = simp zero-add at (opened-up pos 0 w (omega arith))
-
-closed-even : (pos w : ℕ) → closedAt (suc pos) (2 * w) ≡ 2 * closedAt pos w
-closed-even pos w = simp zero-add at (closed-up pos 0 w (omega arith))
-
-pub below-cons-lt : (x y : ℕ) (ys : List ℕ) → y < x → below x (y ∷ ys) ≡ suc (below x ys)
-unfolding below
-below-cons-lt x y ys h = rw (lt-ltb y x h)
-
--- slot p of mini-bucket x, behind one more member of m
-pub slot-up : (m x p hi : ℕ) (ms : List ℕ) → Run m hi ms → m ≤ x → below x (m ∷ ms) ≤ suc p → below x ms ≤ p
-slot-up m x p hi ms r g h =
-    ⊎-elim
-    (λ (e : m ≡ x). omega (arith, below-run x m hi ms (omega arith) r))
-    (λ (l : m < x). omega (arith, below-cons-lt x m ms l))
-    (eq-or-lt-of-le g)
-
-pub slot-first : (m x : ℕ) (ms : List ℕ) → m ≤ x → below x (m ∷ ms) ≤ 0 → x ≡ m
-slot-first m x ms g h =
-    ⊎-elim
-    (λ (e : m ≡ x). sym e)
-    (λ (l : m < x). absurd (omega (arith, below-cons-lt x m ms l)))
-    (eq-or-lt-of-le g)
-
--- a place above that of mini-bucket m's end is one of a later mini-bucket
-pub past-end : (n m x p pos : ℕ) (ms : List ℕ) → Run (suc m) (suc m + n) ms → m ≤ x → suc pos + m ≡ x + p → p ≤ below (suc x) ms → suc m ≤ x
-past-end n m x p pos ms r g e u =
-    ⊎-elim
-    (λ (k : m ≡ x). absurd (omega (arith, below-run (suc x) (suc m) (suc m + n) ms (omega arith) r)))
-    (λ (k : m < x). k)
-    (eq-or-lt-of-le g)
-
-pub coded-opened : {n m : ℕ} {ms : List ℕ} {w : ℕ} (x p pos : ℕ) → Coded n m ms w → m ≤ x → x < m + n → pos + m ≡ x + p
-    → below x ms ≤ p → p ≤ below (suc x) ms → Coded n m (take p ms ++ (x ∷ drop p ms)) (openedAt pos w)
-coded-opened x p pos done g h e l u = absurd (omega arith)
-coded-opened x zero pos (member {m = m} {ms = ms} {w = w} c) g h e l u =
-    let k : x ≡ m = slot-first m x ms g l in
-    let z : pos ≡ 0 = omega arith in
-    rw (k, z, opened-none (2 * w)) (member (member c))
-coded-opened x (suc p) zero (member c) g h e l u = absurd (omega arith)
-coded-opened x (suc p) (suc pos) (member {n = n} {m = m} {ms = ms} {w = w} c) g h e l u =
-    rw (opened-even pos w) (member (coded-opened x p pos c g h (omega arith) (slot-up m x p (m + suc n) ms (coded-run c) g l)
-    (omega (arith, below-cons-lt (suc x) m ms (omega arith)))))
-coded-opened x p zero (end {m = m} {ms = ms} {w = w} c) g h e l u =
-    let k : x ≡ m = omega arith in
-    let z : p ≡ 0 = omega arith in
-    rw (k, z, opened-none (1 + 2 * w)) (member (end c))
-coded-opened x p (suc pos) (end {n = n} {m = m} {ms = ms} {w = w} c) g h e l u =
-    let b : suc m ≤ x = past-end n m x p pos ms (coded-run c) g e u in
-    rw (opened-up pos 1 w (omega arith)) (end (coded-opened x p pos c b (omega arith) (omega arith) l u))
-
-pub coded-closed : {n m : ℕ} {ms : List ℕ} {w : ℕ} (x p pos : ℕ) → Coded n m ms w → m ≤ x → x < m + n → pos + m ≡ x + p
-    → below x ms ≤ p → p < below (suc x) ms → Coded n m (take p ms ++ drop (suc p) ms) (closedAt pos w)
-coded-closed x p pos done g h e l u = absurd (omega arith)
-coded-closed x zero pos (member {m = m} {ms = ms} {w = w} c) g h e l u =
-    let k : x ≡ m = slot-first m x ms g l in
-    let z : pos ≡ 0 = omega arith in
-    let d : 2 * w / 2 ≡ w = omega arith in
-    rw (z, closed-none (2 * w), d) c
-coded-closed x (suc p) zero (member c) g h e l u = absurd (omega arith)
-coded-closed x (suc p) (suc pos) (member {n = n} {m = m} {ms = ms} {w = w} c) g h e l u =
-    rw (closed-even pos w) (member (coded-closed x p pos c g h (omega arith) (slot-up m x p (m + suc n) ms (coded-run c) g l)
-    (omega (arith, below-cons-lt (suc x) m ms (omega arith)))))
-coded-closed x p zero (end {n = n} {m = m} {ms = ms} {w = w} c) g h e l u =
-    absurd (omega (arith, below-run (suc x) (suc m) (suc m + n) ms (omega arith) (coded-run c)))
-coded-closed x p (suc pos) (end {n = n} {m = m} {ms = ms} {w = w} c) g h e l u =
-    let b : suc m ≤ x = past-end n m x p pos ms (coded-run c) g e (omega arith) in
-    rw (closed-up pos 1 w (omega arith)) (end (coded-closed x p pos c b (omega arith) (omega arith) l u))
-
-pub word-opened : (n x p : ℕ) (ms : List ℕ) → Run 0 n ms → x < n → below x ms ≤ p → p ≤ below (suc x) ms
-    → wordFrom n 0 (take p ms ++ (x ∷ drop p ms)) ≡ openedAt (x + p) (wordFrom n 0 ms)
-word-opened n x p ms r h l u =
-    sym (coded-unique (coded-opened x p (x + p) (coded-word n 0 ms (rw (← zero-add n) at r)) (omega arith) (omega arith) (omega arith) l u))
-
-pub word-closed : (n x p : ℕ) (ms : List ℕ) → Run 0 n ms → x < n → below x ms ≤ p → p < below (suc x) ms
-    → wordFrom n 0 (take p ms ++ drop (suc p) ms) ≡ closedAt (x + p) (wordFrom n 0 ms)
-word-closed n x p ms r h l u =
-    sym (coded-unique (coded-closed x p (x + p) (coded-word n 0 ms (rw (← zero-add n) at r)) (omega arith) (omega arith) (omega arith) l u))
-
--- ---- a bucket's word at layout 1
-
-pub coded-minisOf : (w : ℕ) → w < 2 ^ 64 → ones w ≡ 36 → Coded 36 0 (minisOf w) w × (36 + length (minisOf w) ≤ 64)
-unfolding minisOf
-coded-minisOf w l h = let s = minis-ones 64 36 0 w l h in rw (s .1) (coded-minis 64 36 0 w (s .0) (s .1))
-
-pub leading-minisOf : (w : ℕ) → w < 2 ^ 64 → ones w ≡ 36 → leadingZeros 64 w + (36 + length (minisOf w)) ≡ 64
-leading-minisOf w l h = let c = coded-minisOf w l h in leading-coded 64 (omega arith) (c .0) (c .1)
-
--- ---- as the code computes
-
-pub one-shl : (k : ℕ) → k < 64 → (1 * 2 ^ k) % 2 ^ 64 ≡ 2 ^ k
-one-shl k h = shl-exact 1 k 64 (lit< tt) (omega arith) ∙ one-mul (2 ^ k)
-
-pub opened-moved : (pos w : ℕ) → openedAt pos w ≡ w % 2 ^ pos + w / 2 ^ pos * 2 ^ pos * 2
-unfolding openedAt
-opened-moved pos w = rw (pow-add 2 pos 1) (omega arith)
-
-pub closed-moved : (pos w : ℕ) → closedAt pos w ≡ w % 2 ^ pos + w / 2 ^ pos / 2 * 2 ^ pos
-unfolding closedAt
-closed-moved pos w = rw (← shr-shr w pos 1)
-
-pub closed-high : (pos w : ℕ) → w % 2 ^ pos + w / 2 ^ pos / 2 * 2 ^ pos ≤ w
-closed-high pos w = omega (arith, split w pos, mul-le-mul-right (2 ^ pos) (div-le-self (w / 2 ^ pos) 2))
-
-value-from : (k n : ℕ) (l : List ℕ) → value 256 (take (suc n) (drop k l)) ≡ getD l k 0 + 256 * value 256 (take n (drop (suc k) l))
-unfolding value
-value-from zero n [] = rw take-nil
-value-from zero n (d ∷ l) = refl
-value-from (suc k) n [] = rw take-nil
-value-from (suc k) n (d ∷ l) = value-from k n l
-
--- "bytes 0 to 7: a little-endian word"
-pub word-sum : (l : List ℕ) → value 256 (take 8 l)
-    ≡ getD l 0 0 + 256 * getD l 1 0 + 65536 * getD l 2 0 + 16777216 * getD l 3 0 + 4294967296 * getD l 4 0
-    + 1099511627776 * getD l 5 0 + 281474976710656 * getD l 6 0 + 72057594037927936 * getD l 7 0
-unfolding value
-word-sum l =
-    omega (
-      arith,
-      value-from 0 7 l,
-      value-from 1 6 l,
-      value-from 2 5 l,
-      value-from 3 4 l,
-      value-from 4 3 l,
-      value-from 5 2 l,
-      value-from 6 1 l,
-      value-from 7 0 l,
-    )
+  -- "the members in a sound bucket are 28 minus the word's leading zeros"
+  pub leading-minisIn : 0 < minis → leadingZeros bits w + (minis + length (minisIn bits minis w)) ≡ bits
+  leading-minisIn h = leading-coded bits h (coded-minisIn .0) (coded-minisIn .1)

@@ -10,7 +10,7 @@ use Rattle.multiset.specs.Multisets.{ascending, allZero, Below}
 use Rattle.multiset.specs.Digits.{digits, value, spread, grouped, padded, joined, highs, lows}
 use Rattle.crumbmap.specs.Layouts.{Layout, tags, keys, wordBytes}
 use Rattle.crumbmap.specs.CrumbMap.{home}
-use Rattle.buckets.specs.Words.{wordFrom, minisFrom}
+use Rattle.buckets.specs.Words.{wordFrom, minisFrom, listOf}
 
 -- o where a test holds, none elsewhere
 unfoldable pub given : {A : Type 0} → Bool → Option A → Option A
@@ -35,31 +35,50 @@ module _ (L : Layout) where
   abbrev pub slotEnd : ℕ → ℕ
   slotEnd slots = wordBytes L slots + slots * L .tagBytes
 
+  -- how many bytes of a backyard bucket stand behind them, for its crumbs
+  abbrev pub crumbRoom : ℕ
+  crumbRoom = 64 - slotEnd (L .backSlots)
+
   -- ---- bytes of members
 
   -- "bytes 0 to 7: a little-endian word", "bytes 8 up: tags, two bytes each, little-endian, in member order"
+  abbrev pub wordPart : ℕ → List ℕ → List ℕ
+  wordPart slots xs = digits 256 (wordBytes L slots) (wordFrom (L .minis) 0 (highs (tags L) xs))
+
+  abbrev pub tagPart : ℕ → List ℕ → List ℕ
+  tagPart slots xs = spread 256 (L .tagBytes) (padded slots (lows (tags L) xs))
+
   unfoldable pub slotBytes : ℕ → List ℕ → List ℕ
-  slotBytes slots xs =
-      digits 256 (wordBytes L slots) (wordFrom (L .minis) 0 (highs (tags L) xs)) ++ spread 256 (L .tagBytes) (padded slots (lows (tags L) xs))
+  slotBytes slots xs = wordPart slots xs ++ tagPart slots xs
 
   -- a front bucket's 64 bytes
   unfoldable pub frontBytes : List ℕ → List ℕ
   frontBytes xs = padded 64 (slotBytes (L .frontSlots) xs)
 
   -- a backyard bucket's: "bytes 52 to 62 hold crumbs of 4 bits .. even slots in the low half .. byte 63 is 0"
+  abbrev pub crumbBytes : List ℕ → List ℕ
+  crumbBytes ys = grouped 16 2 crumbRoom (padded (crumbRoom * 2) (lows 16 ys))
+
   unfoldable pub backBytes : List ℕ → List ℕ
-  backBytes ys =
-      let room : ℕ = 64 - slotEnd (L .backSlots) in
-      slotBytes (L .backSlots) (highs 16 ys) ++ grouped 16 2 room (padded (room * 2) (lows 16 ys))
+  backBytes ys = slotBytes (L .backSlots) (highs 16 ys) ++ crumbBytes ys
 
   -- ---- members of bytes
+
+  -- the word and the tags of a bucket of so many slots, and the crumbs of a backyard bucket
+  abbrev pub wordIn : ℕ → List ℕ → ℕ
+  wordIn slots b = value 256 (take (wordBytes L slots) b)
+
+  abbrev pub tagsIn : ℕ → List ℕ → List ℕ
+  tagsIn slots b = grouped 256 (L .tagBytes) slots (drop (wordBytes L slots) b)
+
+  abbrev pub crumbsIn : List ℕ → List ℕ
+  crumbsIn b = spread 16 2 (drop (slotEnd (L .backSlots)) b)
 
   -- the keys of the slots in use, where the word is sound, "members fit the slots" and unused tags are 0
   unfoldable pub slotKeys : ℕ → List ℕ → Option (List ℕ)
   slotKeys slots b =
-      let rs : List ℕ = grouped 256 (L .tagBytes) slots (drop (wordBytes L slots) b) in
-      bind (minisFrom (8 * wordBytes L slots) (L .minis) 0 (value 256 (take (wordBytes L slots) b))) (λ ms.
-      given (leb (length ms) slots) (given (allZero (drop (length ms) rs)) (some (joined (tags L) ms rs))))
+      bind (minisFrom (8 * wordBytes L slots) (L .minis) 0 (wordIn slots b)) (λ ms.
+      given (leb (length ms) slots) (given (allZero (drop (length ms) (tagsIn slots b))) (some (joined (tags L) ms (tagsIn slots b)))))
 
   -- "a bucket is first read whole": a front bucket's members, none where it is unsound
   unfoldable pub frontMembers : List ℕ → Option (List ℕ)
@@ -70,10 +89,16 @@ module _ (L : Layout) where
   -- the members of backyard bucket j of B, none where it is unsound
   unfoldable pub backMembers : ℕ → ℕ → List ℕ → Option (List ℕ)
   backMembers B j b =
-      let cs : List ℕ = spread 16 2 (drop (slotEnd (L .backSlots)) b) in
       bind (slotKeys (L .backSlots) b) (λ xs.
-      let ys : List ℕ = joined 16 xs cs in
-      given (ascending ys) (given (allZero (drop (length xs) cs)) (given (valid B j ys) (some ys))))
+      let ys : List ℕ = joined 16 xs (crumbsIn b) in
+      given (ascending ys) (given (allZero (drop (length xs) (crumbsIn b))) (given (valid B j ys) (some ys))))
+
+  -- the members of a front bucket that is sound, and of a backyard bucket, whichever it is
+  unfoldable pub frontList : List ℕ → List ℕ
+  frontList b = listOf (frontMembers b)
+
+  unfoldable pub backList : List ℕ → List ℕ
+  backList b = joined 16 (listOf (slotKeys (L .backSlots) b)) (crumbsIn b)
 
 -- a layout whose buckets fit 64 bytes, its mini-buckets and front slots above nought
 pub record Fits64 (L : Layout) : Type 0 where

@@ -32,6 +32,6 @@ abbrev pub listOf : Option (List ℕ) → List ℕ
 listOf none = []
 listOf (some xs) = xs
 
--- each member's mini-bucket, in a word with 36 ones
-unfoldable pub minisOf : ℕ → List ℕ
-minisOf w = listOf (minisFrom 64 36 0 w)
+-- each member's mini-bucket, in a word of at most `bits` bits with `minis` ones
+unfoldable pub minisIn : ℕ → ℕ → ℕ → List ℕ
+minisIn bits minis w = listOf (minisFrom bits minis 0 w)

@@ -1,4 +1,4 @@
 -- The contracts and the theorem joined: demand 3 of the calls.
-pub mod RunLaws
-pub mod WalkLaws
+pub mod ToldRuns
+pub mod ToldWalks
 pub mod Whole

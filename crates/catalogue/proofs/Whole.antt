@@ -14,11 +14,11 @@ use Rattle.machine.specs.Machine as M
 use Rattle.machine.specs.Calls.{askOf, countOf}
 use Rattle.answers.specs.Answers.{askedOf, countedOf, placeOf}
 use Rattle.answers.specs.declared.Counted.{Counted}
-use Rattle.answers.specs.declared.Tally.{Tally}
-use Rattle.answers.specs.declared.Tally.the-variants as T
+use Rattle.answers.specs.declared.CountResult.{CountResult}
+use Rattle.answers.specs.declared.CountResult.the-variants as T
 use Rattle.answers.specs.declared.Asked.{Asked}
-use Rattle.answers.specs.declared.Answer.{Answer}
-use Rattle.answers.specs.declared.Answer.the-variants as A
+use Rattle.answers.specs.declared.AskResult.{AskResult}
+use Rattle.answers.specs.declared.AskResult.the-variants as A
 use Rattle.answers.specs.declared.Place.{Place}
 use Rattle.answers.specs.declared.Place.the-variants as P
 use Rattle.history.specs.Histories as H
@@ -29,18 +29,19 @@ use Rattle.history.specs.Demand.{Holds}
 use Rattle.history.proofs.Theorem.{demand3-layout1, members-lead-home}
 use Rattle.catalogue.specs.Runs.{Performed, Happened}
 use Rattle.catalogue.specs.Delivery.{Demand, filed}
-use Rattle.catalogue.proofs.RunLaws.{same-accepted, refusal-never, performed, kept}
-use Rattle.catalogue.proofs.WalkLaws.{walk-told}
+use Rattle.machine.proofs.AcceptedLaws.{same-answer}
+use Rattle.catalogue.proofs.ToldRuns.{refusal-never, performed, kept}
+use Rattle.catalogue.proofs.ToldWalks.{walk-told}
 
 -- ---- what a caller meets
 
 -- an answer that the machine accepts is accepted, with the machine's values
-count-accepted : (r : Tally) (m : M.Counted) → countedOf r ≡ accepted m → (c : Counted) × (r ≡ T.Accepted c) × (c .copies ≡ m .copies)
-count-accepted (T.Accepted c) m e = (c, refl, ap (λ (x : M.Counted). x .copies) (same-accepted e))
+count-accepted : (r : CountResult) (m : M.Counted) → countedOf r ≡ accepted m → (c : Counted) × (r ≡ T.Accepted c) × (c .copies ≡ m .copies)
+count-accepted (T.Accepted c) m e = (c, refl, ap (λ (x : M.Counted). x .copies) (same-answer e))
 count-accepted (T.Refused x) m e = absurd (refusal-never M.Counted x (ap number e))
 
-ask-accepted : (r : Answer) (m : M.Asked) → askedOf r ≡ accepted m → (a : Asked) × (r ≡ A.Accepted a) × (a .reads ≡ m .reads) × (placeOf (a .place) ≡ m .place)
-ask-accepted (A.Accepted a) m e = (a, refl, ap (λ (x : M.Asked). x .reads) (same-accepted e), ap (λ (x : M.Asked). x .place) (same-accepted e))
+ask-accepted : (r : AskResult) (m : M.Asked) → askedOf r ≡ accepted m → (a : Asked) × (r ≡ A.Accepted a) × (a .reads ≡ m .reads) × (placeOf (a .place) ≡ m .place)
+ask-accepted (A.Accepted a) m e = (a, refl, ap (λ (x : M.Asked). x .reads) (same-answer e), ap (λ (x : M.Asked). x .place) (same-answer e))
 ask-accepted (A.Refused x) m e = absurd (refusal-never M.Asked x (ap number e))
 
 -- nowhere, in the code's words and in the machine's
@@ -63,12 +64,12 @@ module _ {h : History} {img : List ℕ} (happened : Happened h img) where
   next-due : (c : Call) (n : ℕ) (new : List ℕ) → Fits c → Performed img c n new → n ≡ due layout1 h c
   next-due c n new fits d = performed d .0 ∙ rw left (demand3-layout1 (H.followed h c) (started, fits) .refusals .1)
 
-  count-tells : (k : ℕ) (r : Tally) → k < 2 ^ 64 → countedOf r ≡ countOf layout1 img k → (c : Counted) × (r ≡ T.Accepted c) × (c .copies ≡ filed h k)
+  count-tells : (k : ℕ) (r : CountResult) → k < 2 ^ 64 → countedOf r ≡ countOf layout1 img k → (c : Counted) × (r ≡ T.Accepted c) × (c .copies ≡ filed h k)
   count-tells k r l e = let m = holds .counts k l in count-accepted r _ ((rw left at e) ∙ m .1)
 
-  ask-tells : (k : ℕ) (r : Answer) → k < 2 ^ 64 → askedOf r ≡ askOf layout1 img k → (a : Asked) × (r ≡ A.Accepted a)
+  ask-tells : (k : ℕ) (r : AskResult) → k < 2 ^ 64 → askedOf r ≡ askOf layout1 img k → (a : Asked) × (r ≡ A.Accepted a)
       × ((a .place ≡ P.Nowhere → ⊥) ↔ (0 < filed h k))
-      × ((1 < a .reads) ↔ (28 ≤ smaller layout1 (ledger layout1 h) (frontOf (blocks h) k) (keyOf layout1 k)))
+      × ((1 < a .reads) ↔ (layout1 .frontSlots ≤ smaller layout1 (ledger layout1 h) (frontOf (blocks h) k) (keyOf layout1 k)))
   ask-tells k r l e =
       let m = holds .asks k l in
       let a = ask-accepted r _ ((rw left at e) ∙ m .2) in (

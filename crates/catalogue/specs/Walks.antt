@@ -6,19 +6,19 @@ use Prim.Native.Nat.{ℕ}
 use mathlib.Core.List.{List, [], _++_}
 use lib.ListN.{take}
 use Rattle.crumbmap.specs.Layouts.{layout1, fronts}
-use Rattle.answers.specs.declared.Paged.{Paged}
-use Rattle.answers.specs.declared.Paged.the-variants as G
+use Rattle.answers.specs.declared.PageResult.{PageResult}
+use Rattle.answers.specs.declared.PageResult.the-variants as G
 use Rattle.history.specs.Histories as H
 use Rattle.history.specs.Histories.{Call, History, Fits, blocks}
 use Rattle.history.specs.Ledgers.{ledger}
 use Rattle.catalogue.specs.Runs.{Performed, inserted, deleted, asked, counted, paged, Happened, followed}
 
 -- a page "gives how many and the next bucket": so many entries, from the start of its output after the call
-abbrev pub entriesIn : Paged → List ℕ → List ℕ
+abbrev pub entriesIn : PageResult → List ℕ → List ℕ
 entriesIn (G.Accepted n next) out = take n out
 entriesIn (G.Refused r) out = []
 
-abbrev pub nextIn : Paged → ℕ
+abbrev pub nextIn : PageResult → ℕ
 nextIn (G.Accepted n next) = next
 nextIn (G.Refused r) = 0
 

@@ -1,4 +1,5 @@
 -- The map and its way back undo each other, for either choice; numbers are in range; no two front buckets share a (bucket, crumb).
+-- Main results: `home-bucketOf`, `bucketOf-home`, `bucketOf-lt`, `crumbOf-lt`, `home-lt`, `front-unique`, `choice-unique`.
 use mathlib.Core.Path.{_≡_, refl, _∙_, ap}
 use Prim.Native.Nat.{ℕ, _+_, _*_, _/_, _%_, _-_, _≤_, _<_}
 use mathlib.Core.Bool.{Bool, true, false, cond, _&&_}
@@ -9,8 +10,9 @@ use lib.Dec.{ltb}
 use borrow.Author.Tests.{lt-ltb, le-ltb, ltb-true, ltb-false}
 use Rattle.crumbmap.specs.Layouts.{fronts, backyards}
 use Rattle.crumbmap.specs.CrumbMap.{stride, firstBucket, firstCrumb, secondBucket, secondCrumb, bucketOf, crumbOf, firstHome, secondHome, home}
-use Rattle.crumbmap.specs.Places.{homeIn}
+use Rattle.crumbmap.specs.Steps.Places.{homeIn}
 use Rattle.crumbmap.specs.declared.Homes.{Homes}
+use Rattle.crumbmap.proofs.TestLaws.{both-true}
 
 pub bucketOf-lt : (t : Bool) (B f : ℕ) → f < fronts B → bucketOf t B f < backyards B
 unfolding firstBucket firstCrumb secondBucket stride fronts backyards
@@ -52,13 +54,9 @@ home-bucketOf false B f h =
 
 -- ---- map of back
 
-given-some : (b : Bool) (x f : ℕ) → cond b (some x) none ≡ some f → (b ≡ true) × (x ≡ f)
-given-some true x f e = (refl, cc)
-given-some false x f e = let z : _≡_ {A = ℕ} 0 1 = cc in absurd (omega arith)
-
-both : (a b : Bool) → a && b ≡ true → (a ≡ true) × (b ≡ true)
-both true b e = (refl, e)
-both false b e = let z : _≡_ {A = ℕ} 0 1 = cc in absurd (omega arith)
+cond-some : (b : Bool) (x f : ℕ) → cond b (some x) none ≡ some f → (b ≡ true) × (x ≡ f)
+cond-some true x f e = (refl, cc)
+cond-some false x f e = let z : _≡_ {A = ℕ} 0 1 = cc in absurd (omega arith)
 
 -- a crumb that is valid leads home by one of the two choices
 data Valid (B j c f : ℕ) : Type 0 where
@@ -71,11 +69,11 @@ home-valid B j c f e = go (ltb c 8) refl e
   where
     go : (b : Bool) → ltb c 8 ≡ b → cond b (firstHome B j c) (secondHome B j (c - 8)) ≡ some f → Valid B j c f
     go true l g =
-        let h = given-some (ltb j B) (8 * j + c) f g in
+        let h = cond-some (ltb j B) (8 * j + c) f g in
         by-first (ltb-true c 8 l) (ltb-true j B (h .0)) (h .1)
     go false l g =
-        let h = given-some (ltb (j / stride B) 8 && ltb (8 * (j % stride B) + (c - 8)) B) (64 * (j % stride B) + 8 * (c - 8) + j / stride B) f g in
-        let k = both _ _ (h .0) in
+        let h = cond-some (ltb (j / stride B) 8 && ltb (8 * (j % stride B) + (c - 8)) B) (64 * (j % stride B) + 8 * (c - 8) + j / stride B) f g in
+        let k = both-true _ _ (h .0) in
         by-second (ltb-false c 8 l) (ltb-true _ _ (k .0)) (ltb-true _ _ (k .1)) (h .1)
 
 pub home-lt : (B j c f : ℕ) → c < 16 → home B j c ≡ some f → f < fronts B

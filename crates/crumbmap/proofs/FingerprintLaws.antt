@@ -1,8 +1,10 @@
 -- Every number of a fingerprint is in range, and a fingerprint settles its front bucket and key.
+-- Main results: `frontOf-lt`, `keyOf-lt`, `fingerprint-lt`, `fingerprint-unique`.
 use mathlib.Core.Path.{_≡_, sym, _∙_, ap}
 use Prim.Native.Nat.{ℕ, _+_, _*_, _/_, _%_, _^_, _<_}
-use native.Mathlib.Nat.{div-lt-iff-lt-mul, mul-lt-mul-of-pos-right, mul-le-mul-right, mul-comm, mod-lt, mul-add-div-right, mul-add-mod-self-right, div-eq-of-lt, mod-eq-of-lt, add-zero, suc-mul}
+use native.Mathlib.Nat.{div-lt-iff-lt-mul, mul-lt-mul-of-pos-right, mul-comm, mod-lt, mul-add-div-right, mul-add-mod-self-right, div-eq-of-lt, mod-eq-of-lt, add-zero}
 use native.Mathlib.Omega.{arith}
+use lib.Arith.{digits-lt}
 use lib.Pow.{pow-pos}
 use Rattle.crumbmap.specs.Layouts.{Layout, tags, keys, fronts}
 use Rattle.crumbmap.specs.Fingerprints.{frontOf, tagOf, miniOf, keyOf, fingerprint}
@@ -10,10 +12,6 @@ use Rattle.crumbmap.specs.Fingerprints.{frontOf, tagOf, miniOf, keyOf, f
 -- a part of n, taken in 2 ^ j steps and rounded down, is below n
 scaled-lt : (j q n : ℕ) → q < 2 ^ j → 0 < n → q * n / 2 ^ j < n
 scaled-lt j q n h p = div-lt-iff-lt-mul (pow-pos j) .1 (rw (mul-comm n (2 ^ j)) (mul-lt-mul-of-pos-right h p))
-
--- a × k + r below n × k, for a below n and r below k
-digit-lt : (k n a r : ℕ) → a < n → r < k → a * k + r < n * k
-digit-lt k n a r h l = omega (arith, suc-mul a k, mul-le-mul-right k h)
 
 pub frontOf-lt : (B k : ℕ) → 0 < B → k < 2 ^ 64 → frontOf B k < fronts B
 unfolding frontOf fronts
@@ -29,11 +27,11 @@ tagOf-lt L k = mod-lt k (pow-pos (8 * L .tagBytes))
 
 pub keyOf-lt : (L : Layout) (k : ℕ) → 0 < L .minis → keyOf L k < keys L
 unfolding keyOf
-keyOf-lt L k p = digit-lt (tags L) (L .minis) (miniOf L k) (tagOf L k) (miniOf-lt L k p) (tagOf-lt L k)
+keyOf-lt L k p = digits-lt (miniOf-lt L k p) (tagOf-lt L k)
 
 pub fingerprint-lt : (L : Layout) (n f x : ℕ) → f < n → x < keys L → fingerprint L f x < n * keys L
 unfolding fingerprint
-fingerprint-lt L n f x h k = digit-lt (keys L) n f x h k
+fingerprint-lt L n f x h k = digits-lt h k
 
 -- the digits of a × k + r
 quotient : (k a r : ℕ) → r < k → (a * k + r) / k ≡ a

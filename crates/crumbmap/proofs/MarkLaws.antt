@@ -10,8 +10,8 @@ use lib.Dec.{ltb, lit<}
 use lib.Pow.{pow-pos, pow-mono, ones-lt, ones-split, high, low, field, mod-mod-pow, shr-shr, shl-exact}
 use borrow.Author.Tests.{ltb-true, ltb-false}
 use Rattle.crumbmap.specs.CrumbMap.{home, firstHome, secondHome}
-use Rattle.crumbmap.specs.Places.{LeadsBack}
-use Rattle.crumbmap.specs.Marks.{Marks, bitOf}
+use Rattle.crumbmap.specs.Steps.Places.{LeadsBack}
+use Rattle.crumbmap.specs.Steps.Marks.{Marks, bitOf}
 use Rattle.crumbmap.specs.declared.Homes.{Homes}
 
 odd-ones : (j : ℕ) → (2 ^ suc j - 1) % 2 ≡ 1

@@ -11,6 +11,13 @@ pub record Layout : Type 0 where
 abbrev pub layout1 : Layout
 layout1 = record { minis = 36; frontSlots = 28; backSlots = 22; tagBytes = 2 }
 
+-- the most members behind a front bucket, and the most of a front bucket with those behind it
+abbrev pub mostBehind : Layout → ℕ
+mostBehind L = 2 * L .backSlots
+
+abbrev pub mostMembers : Layout → ℕ
+mostMembers L = L .frontSlots + mostBehind L
+
 -- how many tags there are
 abbrev pub tags : Layout → ℕ
 tags L = 2 ^ (8 * L .tagBytes)

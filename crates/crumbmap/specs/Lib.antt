@@ -2,5 +2,4 @@
 pub mod Layouts
 pub mod Fingerprints
 pub mod CrumbMap
-pub mod Places
-pub mod Marks
+pub mod Steps

@@ -2,6 +2,7 @@
 // Sizes are document 01's B. Bucket numbers are types of their own: only the map and its way back turn one into the other.
 
 pub mod fingerprint;
+pub mod layout;
 pub mod map;
 pub mod valid;
 
@@ -15,6 +16,12 @@ pub struct Backyard(pub usize);
 pub struct Overflow {
     pub bucket: Backyard,
     pub crumb: u32,
+}
+
+// Both ways of a front bucket's overflow.
+pub struct Ways {
+    pub first: Overflow,
+    pub second: Overflow,
 }
 
 // The front bucket that a crumb leads back to.

@@ -5,13 +5,14 @@ use crate::Front;
 use crate::Home;
 use crate::Homes;
 use crate::Overflow;
+use crate::Ways;
 ghost use mathlib.Core.Path.{_≡_};
 ghost use mathlib.Core.Bool.{true, false, _&&_};
 ghost use Prim.Native.Nat.{ℕ, _+_, _*_, _<_, _≤_};
 ghost use lib.Dec.{ltb};
 ghost use Rattle.crumbmap.specs.Layouts.{fronts, backyards};
 ghost use Rattle.crumbmap.specs.CrumbMap.{stride, home, firstHome, secondHome};
-ghost use Rattle.crumbmap.specs.Places.{Leads, LeadsBack, homeIn, homeOf};
+ghost use Rattle.crumbmap.specs.Steps.Places.{Leads, LeadsBoth, LeadsBack, homeIn, homeOf};
 
 // Choice 0: "b0 = floor(f / 8), d0 = f mod 8".
 pub fn first_of(front: Front, size: usize) -> Overflow
@@ -36,6 +37,17 @@ pub fn second_of(front: Front, size: usize) -> Overflow
     Overflow {
         bucket: Backyard(b0 / 8 + f % 8 * stride),
         crumb: (8 + b0 % 8) as u32,
+    }
+}
+
+// Both.
+pub fn ways_of(front: Front, size: usize) -> Ways
+    requires { ⌜ (front .0 < fronts size) × (size ≤ 65536) ⌝ }
+    ensures { λ r. ⌜ LeadsBoth size (front .0) r ⌝ }
+{
+    Ways {
+        first: first_of(front, size),
+        second: second_of(front, size),
     }
 }
 

@@ -6,7 +6,7 @@ ghost use mathlib.Core.Path.{_≡_};
 ghost use Prim.Native.Nat.{_≤_, _<_, _-_, _^_};
 ghost use Rattle.crumbmap.specs.Layouts.{backyards};
 ghost use Rattle.crumbmap.specs.CrumbMap.{home};
-ghost use Rattle.crumbmap.specs.Marks.{Marks};
+ghost use Rattle.crumbmap.specs.Steps.Marks.{Marks};
 
 // Bit c is 1 where crumb c is valid in backyard bucket `from` of an image of size `size`.
 pub fn valid_crumbs(size: usize, from: Backyard) -> u32

@@ -11,7 +11,7 @@ use lib.ListN.{length}
 use lib.Dec.{eqb, ltb}
 use borrow.Author.Tests.{eqb-true, eqb-false, eq-eqb, ne-eqb, ltb-true, lt-ltb, le-ltb}
 use Rattle.multiset.specs.Multisets.{sum}
-use Rattle.multiset.proofs.MultisetLaws.{hit, hit-same, hit-other}
+use Rattle.multiset.proofs.MultisetLaws.{hit, hit-same, hit-other, hit-alike}
 use Rattle.crumbmap.specs.Layouts.{Layout, keys, fronts}
 use Rattle.crumbmap.specs.Fingerprints.{frontOf, keyOf, fingerprint}
 use Rattle.crumbmap.proofs.FingerprintLaws.{frontOf-lt, keyOf-lt, fingerprint-lt, fingerprint-unique}
@@ -29,9 +29,8 @@ use Rattle.history.specs.Refusals.{due, Due}
 use Rattle.machine.proofs.Invariant.{Good, OneMore, total}
 use Rattle.machine.proofs.InsertLaws.{Inserted, took, stuck, insert-keeps}
 use Rattle.machine.proofs.DeleteLaws.{Deleted, gone, absent, delete-keeps}
-use Rattle.machine.proofs.Sums.{sum-alike, sum-shifted}
+use Rattle.multiset.proofs.SumLaws.{sum-alike, sum-shifted}
 use Rattle.machine.proofs.AskLaws.{smallerAt, ask-total, count-total}
-use Rattle.machine.proofs.Segments.{hit-shifted}
 use Rattle.machine.proofs.PageLaws.{Says, Paged, beyond, unfit, listed, page-good}
 use Rattle.machine.proofs.MergeLaws.{MergedWhole, whole, no-space, empty-total, empty-good, merge-good}
 
@@ -79,7 +78,7 @@ module _ (L : Layout) (B : ℕ) where
   total-hit f x old now k m e y h l = go (eqb e f) refl
     where
       same : hit (fingerprint L f y) (fingerprint L f x) ≡ hit y x
-      same = unfold fingerprint in hit-shifted (f * keys L) y x
+      same = unfold fingerprint in hit-alike (f * keys L + y) (f * keys L + x) y x (omega arith) (omega arith)
 
       go : (t : Bool) → eqb e f ≡ t → total L B e y now ≡ hit (fingerprint L e y) (fingerprint L f x) + total L B e y old
       go true q = rw (eqb-true e f q, same) (m .here y)

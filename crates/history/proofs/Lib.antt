@@ -1,4 +1,4 @@
 -- The ledger is what the image holds, walks list it, and demand 3 follows.
 pub mod LedgerLaws
-pub mod WalkLaws
+pub mod WalkSegments
 pub mod Theorem

@@ -21,7 +21,7 @@ use Rattle.machine.proofs.CheckLaws.{check-good}
 use Rattle.machine.proofs.HomeLaws.{all-lead-home}
 use Rattle.machine.proofs.MergeLaws.{merge-number}
 use Rattle.history.proofs.LedgerLaws.{keeps, all-due, count-ledger, ask-ledger, mergeOf-at}
-use Rattle.history.proofs.WalkLaws.{full-walk}
+use Rattle.history.proofs.WalkSegments.{full-walk}
 
 pub demand3 : (L : Layout) → Fits64 L → Demand3 L
 demand3 L fits h s =

@@ -15,15 +15,16 @@ use Rattle.multiset.specs.Multisets.{copies, largest}
 use Rattle.multiset.proofs.MultisetLaws.{hit-same, hit-other, copies-cons}
 use Rattle.crumbmap.specs.Layouts.{Layout, fronts, backyards}
 use Rattle.crumbmap.specs.CrumbMap.{bucketOf, crumbOf, home}
+use Rattle.crumbmap.proofs.TestLaws.{true-both, both-true, left-true, right-true}
 use Rattle.crumbmap.proofs.CrumbMapLaws.{home-lt, home-bucketOf, bucketOf-home, bucketOf-lt, crumbOf-lt}
 use Rattle.buckets.specs.Buckets.{Fits64, isSome, valid, frontMembers, backMembers, FrontList, BackList}
 use Rattle.buckets.proofs.BucketLaws.{frontMembers-list, backMembers-list}
-use Rattle.machine.specs.Results.{Result, accepted, refused, orUnsound}
-use Rattle.machine.specs.Images.{sizeOf, bucketAt, frontAt, backAt}
+use Rattle.machine.specs.Results.{Result, accepted, refused}
+use Rattle.machine.specs.Images.{sizeOf, bucketAt, frontAt, backAt, inFront, inBack}
 use Rattle.machine.specs.Checks.{unless, orLater, unsoundFront, unsoundBack, inTurn, homeInTurn, allInTurn, bucketInTurn, early, checkSized}
-use Rattle.machine.proofs.Tests.{true-both, both-true, left-true, right-true}
-use Rattle.machine.proofs.ImageLaws.{sizeOf-some, front-inside, back-inside, length-bucketAt, below-bucket}
-use Rattle.machine.proofs.Invariant.{Good, listOf, frontView, backView, part, over}
+use Rattle.machine.proofs.AcceptedLaws.{was-sound}
+use Rattle.machine.proofs.ImageLaws.{inFront-read, inBack-read, sizeOf-some, front-inside, back-inside, length-bucketAt, below-bucket}
+use Rattle.machine.proofs.Invariant.{Good, part, over}
 
 module _ (L : Layout) (B : ℕ) (img : List ℕ) (good : Good L B img) where
   fronts-sound : (n f : ℕ) → f + n ≡ fronts B → unsoundFront L n f img ≡ none
@@ -41,12 +42,12 @@ module _ (L : Layout) (B : ℕ) (img : List ℕ) (good : Good L B img) where
   over-part true f x = omega arith
   over-part false f x = omega arith
 
-  member-over : (j y f : ℕ) → 0 < copies y (backView L B j img) → home B j (y % 16) ≡ some f → 0 < over L B f (y / 16) img
+  member-over : (j y f : ℕ) → 0 < copies y (inBack L B j img) → home B j (y % 16) ≡ some f → 0 < over L B f (y / 16) img
   unfolding part
   member-over j y f c e =
       let back = bucketOf-home B j (y % 16) f (omega arith) e in
       let t : Bool = ltb (y % 16) 8 in
-      let same : part L B t f (y / 16) img ≡ copies y (backView L B j img) = rw (back .0, back .1, whole) refl in
+      let same : part L B t f (y / 16) img ≡ copies y (inBack L B j img) = rw (back .0, back .1, whole) refl in
       omega (arith, over-part t f (y / 16))
     where
       whole : y / 16 * 16 + y % 16 ≡ y
@@ -55,15 +56,15 @@ module _ (L : Layout) (B : ℕ) (img : List ℕ) (good : Good L B img) where
   full-in-turn : (x : ℕ) (xs : List ℕ) → length xs ≡ L .frontSlots → largest xs ≤ x → inTurn L x (accepted xs) ≡ true
   full-in-turn x xs e l = search (true-both, eq-eqb, le-leb, arith)
 
-  member-in-turn : (j y : ℕ) (o : Option ℕ) → 0 < copies y (backView L B j img) → T (isSome o) → home B j (y % 16) ≡ o
+  member-in-turn : (j y : ℕ) (o : Option ℕ) → 0 < copies y (inBack L B j img) → T (isSome o) → home B j (y % 16) ≡ o
       → homeInTurn L o (y / 16) img ≡ true
   member-in-turn j y none c s e = absurd s
   member-in-turn j y (some f) c s e =
       let l : f < fronts B = home-lt B j (y % 16) f (omega arith) e in
       let m = good .turn f (y / 16) l (member-over j y f c e) in
-      rw (good .front f l) (full-in-turn (y / 16) (frontView L B f img) (m .0) (m .1))
+      rw (good .front f l) (full-in-turn (y / 16) (inFront L f img) (m .0) (m .1))
 
-  all-in-turn : (j : ℕ) (ys : List ℕ) → T (valid B j ys) → ((y : ℕ) → 0 < copies y ys → 0 < copies y (backView L B j img))
+  all-in-turn : (j : ℕ) (ys : List ℕ) → T (valid B j ys) → ((y : ℕ) → 0 < copies y ys → 0 < copies y (inBack L B j img))
       → allInTurn L B j img ys ≡ true
   unfolding allInTurn valid
   all-in-turn j [] v c = refl
@@ -79,7 +80,7 @@ module _ (L : Layout) (B : ℕ) (img : List ℕ) (good : Good L B img) where
   unfolding early
   none-early zero j h = refl
   none-early (suc n) j h =
-      rw (good .back j (omega arith), all-in-turn j (backView L B j img) (good .backGood j (omega arith) .crumbs) (λ y c. c))
+      rw (good .back j (omega arith), all-in-turn j (inBack L B j img) (good .backGood j (omega arith) .crumbs) (λ y c. c))
       (none-early n (suc j) (omega arith))
 
   pub check-good : checkSized L B img ≡ accepted tt
@@ -93,13 +94,13 @@ unless-passed : (o : Option ℕ) (n : ℕ) (k : Result (Unit {0})) → unless o 
 unless-passed none n k e = (refl, e)
 unless-passed (some i) n k e = let z : _≡_ {A = ℕ} 0 1 = cc in absurd (omega arith)
 
-later-passed : (r : Result (List ℕ)) (o : Option ℕ) → orLater r o ≡ none → (r ≡ accepted (listOf r)) × (o ≡ none)
-later-passed (accepted xs) o e = (refl, e)
+later-passed : (r : Result (List ℕ)) (o : Option ℕ) → orLater r o ≡ none → ((xs : List ℕ) × (r ≡ accepted xs)) × (o ≡ none)
+later-passed (accepted xs) o e = ((xs, refl), e)
 later-passed (refused n i) o e = let z : _≡_ {A = ℕ} 0 1 = cc in absurd (omega arith)
 
 -- where no reading of n from f on was refused, each was accepted
-pub each-read : (read : ℕ → Result (List ℕ)) (first : ℕ → ℕ → Option ℕ) → ((n f : ℕ) → first (suc n) f ≡ orLater (read f) (first n (suc f)))
-    → (n f e : ℕ) → first n f ≡ none → f ≤ e → e < f + n → read e ≡ accepted (listOf (read e))
+each-read : (read : ℕ → Result (List ℕ)) (first : ℕ → ℕ → Option ℕ) → ((n f : ℕ) → first (suc n) f ≡ orLater (read f) (first n (suc f)))
+    → (n f e : ℕ) → first n f ≡ none → f ≤ e → e < f + n → (xs : List ℕ) × (read e ≡ accepted xs)
 each-read read first step zero f e h l k = absurd (omega arith)
 each-read read first step (suc n) f e h l k =
     let p = later-passed (read f) (first n (suc f)) (sym (step n f) ∙ h) in
@@ -107,10 +108,6 @@ each-read read first step (suc n) f e h l k =
       | yes q ↦ rw q (p .0)
       | no q ↦ each-read read first step n (suc f) e (p .1) (omega arith) (omega arith)
     ]
-
-pub was-sound : (i : ℕ) (o : Option (List ℕ)) (xs : List ℕ) → orUnsound i o ≡ accepted xs → o ≡ some xs
-was-sound i none xs e = let z : _≡_ {A = ℕ} 0 1 = cc in absurd (omega arith)
-was-sound i (some ys) xs e = cc
 
 cond-passed : (b : Bool) (o : Option ℕ) (i : ℕ) → cond b o (some i) ≡ none → (b ≡ true) × (o ≡ none)
 cond-passed true o i e = (refl, e)
@@ -137,10 +134,21 @@ module _ (L : Layout) (B : ℕ) (img : List ℕ) where
         | no q ↦ each-in-turn j y zs (p .1) (omega (arith, copies-cons y z zs, hit-other y z q))
       ]
 
-  pub turn-full : (x : ℕ) (r : Result (List ℕ)) → inTurn L x r ≡ true → (length (listOf r) ≡ L .frontSlots) × (largest (listOf r) ≤ x)
-  turn-full x (accepted xs) e =
-      (search (left-true, eqb-true), search (right-true, leb-true))
-  turn-full x (refused n i) e = let z : _≡_ {A = ℕ} 0 1 = cc in absurd (omega arith)
+  pub turn-full : (x : ℕ) (xs : List ℕ) → inTurn L x (accepted xs) ≡ true → (length xs ≡ L .frontSlots) × (largest xs ≤ x)
+  turn-full x xs e = (search (left-true, eqb-true), search (right-true, leb-true))
+
+  -- where none is unsound, each is read
+  pub fronts-read : unsoundFront L (fronts B) 0 img ≡ none → (f : ℕ) → f < fronts B → frontAt L f img ≡ accepted (inFront L f img)
+  unfolding unsoundFront
+  fronts-read clean f h =
+      let r = each-read (λ (e : ℕ). frontAt L e img) (λ (n e : ℕ). unsoundFront L n e img) (λ n e. refl) (fronts B) 0 f clean (omega arith) (omega arith) in
+      rw (inFront-read L f img (r .0) (r .1)) (r .1)
+
+  pub backs-read : unsoundBack L B (backyards B) 0 img ≡ none → (j : ℕ) → j < backyards B → backAt L B j img ≡ accepted (inBack L B j img)
+  unfolding unsoundBack
+  backs-read clean j h =
+      let r = each-read (λ (e : ℕ). backAt L B e img) (λ (n e : ℕ). unsoundBack L B n e img) (λ n e. refl) (backyards B) 0 j clean (omega arith) (omega arith) in
+      rw (inBack-read L B j img (r .0) (r .1)) (r .1)
 
 module _ (L : Layout) (B : ℕ) (img : List ℕ) (checked : checkSized L B img ≡ accepted tt) where
   passed : (unsoundFront L (fronts B) 0 img ≡ none) × (unsoundBack L B (backyards B) 0 img ≡ none) × (early L B (backyards B) 0 img ≡ none)
@@ -150,48 +158,44 @@ module _ (L : Layout) (B : ℕ) (img : List ℕ) (checked : checkSized L B img �
       let q = unless-passed _ 3 _ (p .1) in
       (p .0, q .0, unless-passed _ 8 _ (q .1) .0)
 
-  pub front-passed : (f : ℕ) → f < fronts B → frontAt L f img ≡ accepted (frontView L B f img)
-  unfolding frontView unsoundFront
-  front-passed f h =
-      each-read (λ (e : ℕ). frontAt L e img) (λ (n e : ℕ). unsoundFront L n e img) (λ n e. refl) (fronts B) 0 f (passed .0) (omega arith) (omega arith)
+  pub front-passed : (f : ℕ) → f < fronts B → frontAt L f img ≡ accepted (inFront L f img)
+  front-passed = fronts-read L B img (passed .0)
 
-  pub back-passed : (j : ℕ) → j < backyards B → backAt L B j img ≡ accepted (backView L B j img)
-  unfolding backView unsoundBack
-  back-passed j h =
-      each-read (λ (e : ℕ). backAt L B e img) (λ (n e : ℕ). unsoundBack L B n e img) (λ n e. refl) (backyards B) 0 j (passed .1) (omega arith) (omega arith)
+  pub back-passed : (j : ℕ) → j < backyards B → backAt L B j img ≡ accepted (inBack L B j img)
+  back-passed = backs-read L B img (passed .1)
 
-  pub in-turn-passed : (j y : ℕ) → j < backyards B → 0 < copies y (backView L B j img) → homeInTurn L (home B j (y % 16)) (y / 16) img ≡ true
+  pub in-turn-passed : (j y : ℕ) → j < backyards B → 0 < copies y (inBack L B j img) → homeInTurn L (home B j (y % 16)) (y / 16) img ≡ true
   in-turn-passed j y h c =
       let whole = rw (back-passed j h) at (none-before L B img (backyards B) 0 j (passed .2) (omega arith) (omega arith)) in
-      each-in-turn L B img j y (backView L B j img) whole c
+      each-in-turn L B img j y (inBack L B j img) whole c
 
 module _ (L : Layout) (fits : Fits64 L) (B : ℕ) (img : List ℕ) (bytes : (i : ℕ) → getD img i 0 < 256) (size : sizeOf (length img) ≡ some B)
     (checked : checkSized L B img ≡ accepted tt) where
-  front-list : (f : ℕ) → f < fronts B → FrontList L (frontView L B f img)
+  front-list : (f : ℕ) → f < fronts B → FrontList L (inFront L f img)
   unfolding frontAt
   front-list f h =
       let inside : 64 * f + 64 ≤ length img = rw (sizeOf-some (length img) B size .0) (front-inside B f h) in
-      frontMembers-list L fits (bucketAt f img) (frontView L B f img) (below-bucket f img bytes) (length-bucketAt f img inside)
-      (was-sound f (frontMembers L (bucketAt f img)) (frontView L B f img) (front-passed L B img checked f h))
+      frontMembers-list L fits (bucketAt f img) (inFront L f img) (below-bucket f img bytes) (length-bucketAt f img inside)
+      (was-sound f (frontMembers L (bucketAt f img)) (inFront L f img) (front-passed L B img checked f h))
 
-  back-list : (j : ℕ) → j < backyards B → BackList L B j (backView L B j img)
+  back-list : (j : ℕ) → j < backyards B → BackList L B j (inBack L B j img)
   unfolding backAt
   back-list j h =
       let i : ℕ = fronts B + j in
       let inside : 64 * i + 64 ≤ length img = rw (sizeOf-some (length img) B size .0) (back-inside B j h) in
-      backMembers-list L fits B j (bucketAt i img) (backView L B j img) (below-bucket i img bytes) (length-bucketAt i img inside)
-      (was-sound i (backMembers L B j (bucketAt i img)) (backView L B j img) (back-passed L B img checked j h))
+      backMembers-list L fits B j (bucketAt i img) (inBack L B j img) (below-bucket i img bytes) (length-bucketAt i img inside)
+      (was-sound i (backMembers L B j (bucketAt i img)) (inBack L B j img) (back-passed L B img checked j h))
 
   part-turn : (t : Bool) (f x : ℕ) → f < fronts B → 0 < part L B t f x img
-      → (length (frontView L B f img) ≡ L .frontSlots) × (largest (frontView L B f img) ≤ x)
-  unfolding part frontView
+      → (length (inFront L f img) ≡ L .frontSlots) × (largest (inFront L f img) ≤ x)
+  unfolding part
   part-turn t f x h c =
       let j : ℕ = bucketOf t B f in
       let l : j < backyards B = bucketOf-lt t B f h in
       let mine = in-turn-passed L B img checked j (x * 16 + crumbOf t f) l c in
       let low : (x * 16 + crumbOf t f) % 16 ≡ crumbOf t f = omega (arith, crumbOf-lt t f) in
       let high : (x * 16 + crumbOf t f) / 16 ≡ x = omega (arith, crumbOf-lt t f) in
-      turn-full L B img x (frontAt L f img) (rw (low, high, home-bucketOf t B f h) at mine)
+      turn-full L B img x (inFront L f img) (rw (low, high, home-bucketOf t B f h, front-passed L B img checked f h) at mine)
 
   pub good-checked : Good L B img
   good-checked = record {

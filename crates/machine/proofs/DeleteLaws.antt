@@ -1,4 +1,5 @@
 -- A delete keeps the invariant: it is accepted and there is one copy less, or it is refused with 5 and there was none.
+-- Main result: `delete-keeps`.
 use mathlib.Core.Path.{_≡_, refl, sym, ap, _∙_}
 use Prim.Native.Nat.{ℕ, suc, _+_, _*_, _≤_, _<_}
 use mathlib.Core.Bool.{Bool, true, false, _&&_}
@@ -9,18 +10,19 @@ use lib.ListN.{length}
 use lib.Dec.{ltb, eqb, T}
 use borrow.Author.Tests.{lt-ltb, le-ltb, eq-eqb}
 use Rattle.multiset.specs.Multisets.{added, removed, copies, largest, ascending}
-use Rattle.multiset.proofs.MultisetLaws.{copies-cons, copies-added, copies-removed, length-added, length-removed, below-copies, largest-max, copies-largest, head-least}
+use Rattle.multiset.proofs.MultisetLaws.{copies-cons, copies-added, copies-removed, length-added, length-removed, below-copies, hit-equal, equal-of-hit}
+use Rattle.multiset.proofs.OrderLaws.{largest-max, copies-largest, head-least, largest-le}
 use Rattle.crumbmap.specs.Layouts.{Layout, keys, fronts}
 use Rattle.crumbmap.specs.CrumbMap.{bucketOf, crumbOf}
 use Rattle.buckets.specs.Buckets.{Fits64, FrontList}
 use Rattle.machine.specs.Results.{Result, accepted, refused}
-use Rattle.machine.specs.Images.{frontAt, backAt, putFront, putBack}
+use Rattle.machine.specs.Images.{frontAt, backAt, inFront, inBack, putFront, putBack}
 use Rattle.machine.specs.Bags.{fromFirst}
-use Rattle.machine.specs.Machine.{Change, changed, takeOut, refill, deleteAt}
+use Rattle.machine.specs.Machine.{Change, changed, takeOut, overflow, bagIn, overflowIn, refill, deleteAt}
 use Rattle.machine.proofs.BagLaws.{has-yes, has-no, fromFirst-has}
-use Rattle.machine.proofs.Invariant.{frontView, part, over, total, Good, OneMore}
-use Rattle.machine.proofs.Overflow.{held, carried, overs, copies-carried, copies-overs, read-held, ascending-overs, below-overs}
-use Rattle.machine.proofs.Members.{hit-of, hit-equal, largest-le, cond-choice, front-added, front-removed}
+use Rattle.machine.proofs.Invariant.{part, over, total, Good, OneMore}
+use Rattle.machine.proofs.OverflowLaws.{copies-bagIn, copies-overflowIn, bucketOf-read, ascending-overflowIn, below-overflowIn}
+use Rattle.machine.proofs.Members.{cond-choice, front-removed, front-swapped}
 use Rattle.machine.proofs.Changes.{FrontWritten, OneOver, front-written, back-left}
 
 pub data Deleted (L : Layout) (B f x : ℕ) (img : List ℕ) : Type 0 where
@@ -30,20 +32,20 @@ pub data Deleted (L : Layout) (B f x : ℕ) (img : List ℕ) : Type 0 where
 
 module _ (L : Layout) (fits : Fits64 L) (B f x : ℕ) (img : List ℕ) (good : Good L B img) (h : f < fronts B) where
   abbrev xs : List ℕ
-  xs = frontView L B f img
+  xs = inFront L f img
 
   abbrev ys : Bool → List ℕ
-  ys = held L B f img
+  ys t = inBack L B (bucketOf t B f) img
 
   -- f's members among them
   abbrev zs : Bool → List ℕ
-  zs = carried L B f img
+  zs t = bagIn L B f t img
 
   read : frontAt L f img ≡ accepted xs
   read = good .front f h
 
   read-back : (t : Bool) → backAt L B (bucketOf t B f) img ≡ accepted (ys t)
-  read-back = read-held L B f img good h
+  read-back = bucketOf-read L B f img good h
 
   list : FrontList L xs
   list = good .frontGood f h
@@ -54,9 +56,9 @@ module _ (L : Layout) (fits : Fits64 L) (B f x : ℕ) (img : List ℕ) (good : G
 
   choice-has : (v : ℕ) → 0 < over L B f v img → 0 < part L B (choice v) f v img
   choice-has v o =
-      rw (← copies-carried L B f img (choice v) v, ← cond-choice zs (choice v))
+      rw (← copies-bagIn L B f img (choice v) v, ← cond-choice zs (choice v))
       (fromFirst-has v (zs true) (zs false) (length (ys true)) (length (ys false))
-      (omega (arith, copies-carried L B f img true v, copies-carried L B f img false v)))
+      (omega (arith, copies-bagIn L B f img true v, copies-bagIn L B f img false v)))
 
   -- the image `old` after v left the backyard bucket that has it
   abbrev without : ℕ → List ℕ → List ℕ
@@ -119,23 +121,23 @@ module _ (L : Layout) (fits : Fits64 L) (B f x : ℕ) (img : List ℕ) (good : G
       least y o = head-least y v vs (e .order) (omega (arith, e .each y))
 
       v-over : 0 < over L B f v img
-      v-over = omega (arith, e .each v, copies-cons v v vs, hit-of v v refl)
+      v-over = omega (arith, e .each v, copies-cons v v vs, hit-equal v v refl)
 
       v-key : v < keys L
-      v-key = below-copies (keys L) v (overs L B f img) (below-overs L B f img good h) (omega (arith, copies-overs L B f img v, v-over))
+      v-key = below-copies (keys L) v (overflowIn L B f img) (below-overflowIn L B f img good h) (omega (arith, copies-overflowIn L B f img v, v-over))
 
       short : length xs ≡ suc (length (removed x xs))
       short = length-removed x xs c
 
       members : (y z : ℕ) → 0 < over L B f y img → 0 < copies z (added v (removed x xs)) → z ≤ y
       members y z o m = elim (ℕ-discrete (copies z (removed x xs)) 0) [
-        | yes p ↦ omega (arith, hit-equal z v (omega (arith, copies-added z v (removed x xs), p, m)), least y o)
+        | yes p ↦ omega (arith, equal-of-hit z v (omega (arith, copies-added z v (removed x xs), p, m)), least y o)
         | no n ↦ omega (arith, largest-max z xs (list .order) (omega (arith, copies-removed z x xs c)), good .turn f y h o .1)
       ]
 
       w : FrontWritten L B f (added v (removed x xs)) img (mid v)
       w = front-written L fits B f h img good (added v (removed x xs))
-          (front-added L v (removed x xs) (front-removed L x xs list c) v-key (omega (arith, short)))
+          (front-swapped L x v xs list c v-key)
           (λ y o. (omega (arith, short, length-added v (removed x xs)), largest-le y (added v (removed x xs)) (λ z m. members y z o m)))
 
       o : Good L B (without v (mid v)) × OneOver L B f v (without v (mid v)) (mid v)
@@ -173,10 +175,10 @@ module _ (L : Layout) (fits : Fits64 L) (B f x : ℕ) (img : List ℕ) (good : G
       record { answer = 1 + bucketOf (choice v) B f; now = without v (mid v); is = takeOut-is v (mid v); good-now = p .0; less = p .1 }
 
   delete-took : 0 < copies x xs → length xs ≡ L .frontSlots → Took (deleteAt L B f x img)
-  unfolding deleteAt
+  unfolding deleteAt overflow
   delete-took c s =
       rw (read, has-yes x xs c, no-slot s, read-back true, read-back false)
-      (refill-took _ (record { each = λ y. omega (arith, copies-overs L B f img y); order = ascending-overs L B f img good h }) c s)
+      (refill-took _ (record { each = λ y. omega (arith, copies-overflowIn L B f img y); order = ascending-overflowIn L B f img good h }) c s)
 
   refills : 0 < copies x xs → length xs ≡ L .frontSlots → Deleted L B f x img
   refills c s =
@@ -188,10 +190,10 @@ module _ (L : Layout) (fits : Fits64 L) (B f x : ℕ) (img : List ℕ) (good : G
   beyond = eqb (length xs) (L .frontSlots) && ltb (largest xs) x
 
   leaves : copies x xs ≡ 0 → beyond ≡ true → 0 < over L B f x img → Deleted L B f x img
-  unfolding deleteAt
+  unfolding deleteAt overflow
   leaves n s o =
       gone (1 + bucketOf (choice x) B f) (without x img)
-      (rw (read, has-no x xs n, s, read-back true, read-back false, has-yes x (overs L B f img) (rw (copies-overs L B f img x) o)) (takeOut-is x img))
+      (rw (read, has-no x xs n, s, read-back true, read-back false, has-yes x (overflowIn L B f img) (rw (copies-overflowIn L B f img x) o)) (takeOut-is x img))
       (p .0) record {
         here = λ y. omega (arith, ap (copies y) (p .1 .views f h), p .1 .here y);
         elsewhere = λ e y l n. omega (arith, ap (copies y) (p .1 .views e l), p .1 .elsewhere e y l n);
@@ -202,9 +204,9 @@ module _ (L : Layout) (fits : Fits64 L) (B f x : ℕ) (img : List ℕ) (good : G
 
   -- x stands nowhere
   misses : copies x xs ≡ 0 → over L B f x img ≡ 0 → (b : Bool) → beyond ≡ b → Deleted L B f x img
-  unfolding deleteAt
+  unfolding deleteAt overflow
   misses n z true s = absent
-      (rw (read, has-no x xs n, s, read-back true, read-back false, has-no x (overs L B f img) (rw (copies-overs L B f img x) z)))
+      (rw (read, has-no x xs n, s, read-back true, read-back false, has-no x (overflowIn L B f img) (rw (copies-overflowIn L B f img x) z)))
       (omega arith)
   misses n z false s = absent (rw (read, has-no x xs n, s)) (omega arith)
 
@@ -220,7 +222,7 @@ module _ (L : Layout) (fits : Fits64 L) (B f x : ℕ) (img : List ℕ) (good : G
 module _ (L : Layout) (fits : Fits64 L) where
   pub delete-keeps : (B f x : ℕ) (img : List ℕ) → Good L B img → f < fronts B → x < keys L → Deleted L B f x img
   delete-keeps B f x img good h k =
-      let xs : List ℕ = frontView L B f img in
+      let xs : List ℕ = inFront L f img in
       elim (ℕ-discrete (copies x xs) 0) [
         | yes n ↦ elim (ℕ-discrete (over L B f x img) 0) [
           | yes z ↦ misses L fits B f x img good h n z (beyond L fits B f x img good h) refl

@@ -9,35 +9,34 @@ use native.Mathlib.Omega.{arith}
 use lib.ListN.{length}
 use lib.Dec.{ltb, T}
 use Rattle.multiset.specs.Multisets.{ascending}
-use Rattle.multiset.proofs.MultisetLaws.{largest-max}
+use Rattle.multiset.proofs.OrderLaws.{largest-max}
 use Rattle.crumbmap.specs.Layouts.{Layout, fronts}
 use Rattle.crumbmap.specs.CrumbMap.{home}
 use Rattle.crumbmap.proofs.CrumbMapLaws.{home-lt, bucketOf-home}
 use Rattle.buckets.specs.Buckets.{frontMembers}
 use Rattle.buckets.proofs.BucketLaws.{read-front}
 use Rattle.machine.specs.Results.{accepted, andThen, orRefused}
-use Rattle.machine.specs.Images.{sizeOf, bucketAt, frontAt}
+use Rattle.machine.specs.Images.{sizeOf, bucketAt, frontAt, inFront, inBack}
 use Rattle.machine.specs.Checks.{homeInTurn, checkSized}
 use Rattle.machine.specs.Homes.{LeadsHome, AllLeadHome}
 use Rattle.machine.specs.Calls.{checkOf}
-use Rattle.machine.proofs.Invariant.{frontView, backView}
-use Rattle.machine.proofs.CheckLaws.{was-sound, turn-full, front-passed, back-passed, in-turn-passed}
+use Rattle.machine.proofs.AcceptedLaws.{was-sound}
+use Rattle.machine.proofs.CheckLaws.{turn-full, front-passed, back-passed, in-turn-passed}
 
 module _ (L : Layout) (B : ℕ) (img : List ℕ) (checked : checkSized L B img ≡ accepted tt) where
-  front-order : (f : ℕ) → f < fronts B → T (ascending (frontView L B f img))
+  front-order : (f : ℕ) → f < fronts B → T (ascending (inFront L f img))
   unfolding frontAt
   front-order f h =
-      read-front L (bucketAt f img) (frontView L B f img)
-      (was-sound f (frontMembers L (bucketAt f img)) (frontView L B f img) (front-passed L B img checked f h)) .order
+      read-front L (bucketAt f img) (inFront L f img)
+      (was-sound f (frontMembers L (bucketAt f img)) (inFront L f img) (front-passed L B img checked f h)) .order
 
   -- a member in its turn leads home
   leads-home : (j y : ℕ) (o : Option ℕ) → home B j (y % 16) ≡ o → homeInTurn L o (y / 16) img ≡ true → LeadsHome L B img j y
-  unfolding frontView
   leads-home j y none e t = let z : _≡_ {A = ℕ} 0 1 = cc in absurd (omega arith)
   leads-home j y (some f) e t =
       let l : f < fronts B = home-lt B j (y % 16) f (omega arith) e in
       let b = bucketOf-home B j (y % 16) f (omega arith) e in
-      let turn = turn-full L B img (y / 16) (frontAt L f img) t in
+      let turn = turn-full L B img (y / 16) (inFront L f img) (rw (front-passed L B img checked f l) at t) in
       record {
         front = f;
         inside = l;
@@ -45,15 +44,15 @@ module _ (L : Layout) (B : ℕ) (img : List ℕ) (checked : checkSized L B img �
         choice = ltb (y % 16) 8;
         crumb = b .1;
         bucket = b .0;
-        members = frontView L B f img;
+        members = inFront L f img;
         read = front-passed L B img checked f l;
         full = turn .0;
-        none-larger = λ x c. omega (arith, largest-max x (frontView L B f img) (front-order f l) c, turn .1);
+        none-larger = λ x c. omega (arith, largest-max x (inFront L f img) (front-order f l) c, turn .1);
       }
 
   pub all-lead-home : AllLeadHome L B img
   all-lead-home j h = (
-    backView L B j img,
+    inBack L B j img,
     back-passed L B img checked j h,
     λ y c. leads-home j y (home B j (y % 16)) refl (in-turn-passed L B img checked j y h c),
   )

@@ -1,81 +1,33 @@
--- Buckets in an image: a bucket that is written is read back, every other one is as it was, lengths stay; sizes; the empty image.
+-- Buckets in an image: their length and bytes, the members of a bucket that was read (`inFront-read`, `inBack-read`); sizes; the empty image.
 use mathlib.Core.Path.{_≡_, refl, sym, ap, _∙_}
 use mathlib.Core.Bool.{Bool, true, false, cond, _&&_}
 use Prim.Native.Nat.{ℕ, zero, suc, _+_, _*_, _/_, _-_, _≤_, _<_}
-use mathlib.Core.List.{List, [], _∷_, _++_, append-assoc, append-nil}
+use mathlib.Core.List.{List, [], _++_, append-assoc, append-nil}
 use mathlib.Core.Option.{none, some}
 use native.Mathlib.Omega.{arith}
-use lib.ListN.{length, take, drop, length-append, length-take, length-drop, take-append-drop, getD}
-use lib.Seq.{length-take-le, take-all, take-at, drop-at, take-append-le, drop-append-le, drop-append-add}
-use lib.Dec.{T, eqb, leb, ltb, eqb→eq, leb→le}
+use lib.ListN.{length, drop, length-append, length-take, length-drop, getD}
+use lib.Seq.{take-all}
+use lib.Dec.{T, eqb, leb, eqb→eq, leb→le}
 use mir.Facts.{and-yes}
-use borrow.Author.Tests.{eq-eqb, le-leb, ltb-true, ltb-false}
+use borrow.Author.Tests.{eq-eqb, le-leb}
 use Rattle.multiset.specs.Multisets.{Below}
+use Rattle.multiset.proofs.MultisetLaws.{below-take, below-drop, below-of-at}
 use Rattle.crumbmap.specs.Layouts.{Layout, fronts, backyards}
-use Rattle.buckets.specs.Buckets.{frontBytes, backBytes}
-use Rattle.machine.specs.Images.{lengthOf, sizeOf, bucketAt, put, repeated, emptyImage}
-
--- a bucket of a list's first part, and one past it
-bucketAt-head : (k : ℕ) (p q : List ℕ) → 64 * k + 64 ≤ length p → bucketAt k (p ++ q) ≡ bucketAt k p
-unfolding bucketAt
-bucketAt-head k p q h =
-    let d : 64 ≤ length (drop (64 * k) p) = simp length-drop (omega arith) in
-    rw (drop-append-le (64 * k) p q (omega arith)) (take-append-le 64 (drop (64 * k) p) q d)
-
-bucketAt-past : (k i : ℕ) (p q : List ℕ) → length p + 64 * i ≡ 64 * k → bucketAt k (p ++ q) ≡ bucketAt i q
-unfolding bucketAt
-bucketAt-past k i p q e = rw (← e, drop-append-add p q (64 * i))
-
-pub length-put : (i : ℕ) (b img : List ℕ) → length b ≡ 64 → 64 * i + 64 ≤ length img → length (put i b img) ≡ length img
-unfolding put
-length-put i b img h l = simp (length-append, length-take, length-drop) (omega arith)
-
-pub bucketAt-put : (i : ℕ) (b img : List ℕ) → length b ≡ 64 → 64 * i + 64 ≤ length img → bucketAt i (put i b img) ≡ b
-unfolding bucketAt put
-bucketAt-put i b img h l =
-    rw (drop-at (take (64 * i) img) (b ++ drop (64 * i + 64) img) (64 * i) (length-take-le (64 * i) img (omega arith)))
-    (take-at b (drop (64 * i + 64) img) 64 h)
-
-pub bucketAt-put-other : (i k : ℕ) (b img : List ℕ) → length b ≡ 64 → 64 * i + 64 ≤ length img → (i ≡ k → ⊥)
-    → bucketAt k (put i b img) ≡ bucketAt k img
-unfolding put
-bucketAt-put-other i k b img h l n = go (ltb k i) refl
-  where
-    head : List ℕ
-    head = take (64 * i) img
-
-    left : length head ≡ 64 * i
-    left = length-take-le (64 * i) img (omega arith)
-
-    go : (t : Bool) → ltb k i ≡ t → bucketAt k (put i b img) ≡ bucketAt k img
-    go true e =
-        let c : 64 * k + 64 ≤ length head = omega (arith, left, ltb-true k i e) in
-        bucketAt-head k head (b ++ drop (64 * i + 64) img) c ∙ sym (bucketAt-head k head (drop (64 * i) img) c)
-        ∙ rw (take-append-drop (64 * i) img)
-    go false e =
-        let c : i < k = omega (arith, ltb-false k i e) in
-        let m : ℕ = k - suc i in
-        let d : 64 * i + 64 + 64 * m ≡ 64 * k = omega arith in
-        ap (bucketAt k) (sym (append-assoc head b (drop (64 * i + 64) img)))
-        ∙ bucketAt-past k m (head ++ b) (drop (64 * i + 64) img) (rw (length-append head b) (omega (arith, left)))
-        ∙ sym (bucketAt-past k m (take (64 * i + 64) img) (drop (64 * i + 64) img) (omega (arith, length-take-le (64 * i + 64) img l)))
-        ∙ rw (take-append-drop (64 * i + 64) img)
+use Rattle.buckets.specs.Buckets.{frontMembers, backMembers, frontBytes, backBytes}
+use Rattle.buckets.proofs.BucketLaws.{frontList-members, backList-members}
+use Rattle.machine.specs.Results.{accepted}
+use Rattle.machine.specs.Images.{lengthOf, sizeOf, bucketAt, repeated, frontAt, backAt, inFront, inBack, emptyImage}
+use Rattle.machine.proofs.AcceptedLaws.{was-sound}
+use Rattle.machine.proofs.PutLaws.{bucketAt-head, bucketAt-past}
 
 pub length-bucketAt : (i : ℕ) (img : List ℕ) → 64 * i + 64 ≤ length img → length (bucketAt i img) ≡ 64
 unfolding bucketAt
 length-bucketAt i img h = simp (length-take, length-drop) (omega arith)
 
--- a part of bytes is bytes
-below-part : (n m : ℕ) (l : List ℕ) → ((i : ℕ) → getD l i 0 < 256) → Below 256 (take n (drop m l))
-below-part zero m l k = tt
-below-part (suc n) zero [] k = tt
-below-part (suc n) zero (x ∷ xs) k = (k 0, below-part n zero xs (λ i. k (suc i)))
-below-part (suc n) (suc m) [] k = tt
-below-part (suc n) (suc m) (x ∷ xs) k = below-part (suc n) m xs (λ i. k (suc i))
-
+-- a bucket of bytes is bytes
 pub below-bucket : (i : ℕ) (img : List ℕ) → ((k : ℕ) → getD img k 0 < 256) → Below 256 (bucketAt i img)
 unfolding bucketAt
-below-bucket i img k = below-part 64 (64 * i) img k
+below-bucket i img h = below-take 256 64 (drop (64 * i) img) (below-drop 256 (64 * i) img (below-of-at 256 img h))
 
 -- a length that is accepted is that of its size, and the other way round
 pub sizeOf-some : (n B : ℕ) → sizeOf n ≡ some B → (n ≡ lengthOf B) × (0 < B) × (B ≤ 65536)
@@ -109,7 +61,7 @@ pub back-inside : (B j : ℕ) → j < backyards B → 64 * (fronts B + j) + 64 �
 unfolding fronts backyards lengthOf
 back-inside B j h = omega arith
 
-length-repeated : (n : ℕ) (b : List ℕ) → length b ≡ 64 → length (repeated n b) ≡ 64 * n
+pub length-repeated : (n : ℕ) (b : List ℕ) → length b ≡ 64 → length (repeated n b) ≡ 64 * n
 unfolding repeated
 length-repeated zero b h = refl
 length-repeated (suc n) b h = rw (length-append b (repeated n b)) (omega (arith, length-repeated n b h))
@@ -123,6 +75,19 @@ bucketAt-repeated (suc n) (suc i) b q h l =
     rw append-assoc (bucketAt-past (suc i) i b (repeated n b ++ q) (omega arith) ∙ bucketAt-repeated n i b q h (omega arith))
 
 module _ (L : Layout) where
+  -- the members of a bucket that was read
+  pub inFront-read : (f : ℕ) (img xs : List ℕ) → frontAt L f img ≡ accepted xs → inFront L f img ≡ xs
+  unfolding frontAt
+  inFront-read f img xs e = frontList-members L (bucketAt f img) xs (was-sound f (frontMembers L (bucketAt f img)) xs e)
+
+  pub inBack-read : (B j : ℕ) (img ys : List ℕ) → backAt L B j img ≡ accepted ys → inBack L B j img ≡ ys
+  unfolding backAt
+  inBack-read B j img ys e =
+      let b : List ℕ = bucketAt (fronts B + j) img in
+      backList-members L B j b ys (was-sound (fronts B + j) (backMembers L B j b) ys e)
+
+  -- ---- the empty image
+
   pub length-empty : (B : ℕ) → length (frontBytes L []) ≡ 64 → length (backBytes L []) ≡ 64 → length (emptyImage L B) ≡ lengthOf B
   unfolding emptyImage lengthOf fronts backyards
   length-empty B h k =

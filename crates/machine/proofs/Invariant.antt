@@ -1,10 +1,10 @@
--- The invariant of every history's image, `Good`: every bucket reads as sound, every view of a bucket is a list that can stand there,
+-- The invariant of every history's image, `Good`: every bucket reads as sound, the members of a bucket are a list that can stand there,
 -- and a member stands in the backyard only where its front bucket is full of members that are no larger.
 -- `total f x` is how often key x stands in front bucket f and in its two backyard buckets together.
 use mathlib.Core.Path.{_≡_, refl}
 use Prim.Native.Nat.{ℕ, _+_, _*_, _≤_, _<_}
 use mathlib.Core.Bool.{Bool, true, false, not}
-use mathlib.Core.List.{List, []}
+use mathlib.Core.List.{List}
 use mathlib.Core.Option.{some}
 use native.Mathlib.Omega.{arith}
 use lib.ListN.{length}
@@ -13,31 +13,19 @@ use Rattle.multiset.specs.Multisets.{copies, largest}
 use Rattle.multiset.proofs.MultisetLaws.{hit}
 use Rattle.crumbmap.specs.Layouts.{Layout, fronts, backyards}
 use Rattle.crumbmap.specs.CrumbMap.{bucketOf, crumbOf}
-use Rattle.machine.specs.Results.{Result, accepted, refused}
-use Rattle.machine.specs.Images.{sizeOf, frontAt, backAt}
-
--- what was read, [] where it was refused
-abbrev pub listOf : Result (List ℕ) → List ℕ
-listOf (accepted xs) = xs
-listOf (refused n i) = []
+use Rattle.machine.specs.Results.{accepted}
+use Rattle.machine.specs.Images.{sizeOf, frontAt, backAt, inFront, inBack}
 
 module _ (L : Layout) (B : ℕ) where
-  -- the members of front bucket f, and of backyard bucket j
-  unfoldable pub frontView : ℕ → List ℕ → List ℕ
-  frontView f img = listOf (frontAt L f img)
-
-  unfoldable pub backView : ℕ → List ℕ → List ℕ
-  backView j img = listOf (backAt L B j img)
-
   -- how often key x of front bucket f stands in its backyard bucket of a choice, in both, and anywhere
   unfoldable pub part : Bool → ℕ → ℕ → List ℕ → ℕ
-  part t f x img = copies (x * 16 + crumbOf t f) (backView (bucketOf t B f) img)
+  part t f x img = copies (x * 16 + crumbOf t f) (inBack L B (bucketOf t B f) img)
 
   abbrev pub over : ℕ → ℕ → List ℕ → ℕ
   over f x img = part true f x img + part false f x img
 
   abbrev pub total : ℕ → ℕ → List ℕ → ℕ
-  total f x img = copies x (frontView f img) + over f x img
+  total f x img = copies x (inFront L f img) + over f x img
 
   -- both, with either choice first
   pub over-choice : (t : Bool) (f x : ℕ) (img : List ℕ) → over f x img ≡ part t f x img + part (not t) f x img
@@ -46,11 +34,11 @@ module _ (L : Layout) (B : ℕ) where
 
   pub record Good (img : List ℕ) : Type 0 where
     pub size : sizeOf (length img) ≡ some B
-    pub front : (f : ℕ) → f < fronts B → frontAt L f img ≡ accepted (frontView f img)
-    pub frontGood : (f : ℕ) → f < fronts B → FrontList L (frontView f img)
-    pub back : (j : ℕ) → j < backyards B → backAt L B j img ≡ accepted (backView j img)
-    pub backGood : (j : ℕ) → j < backyards B → BackList L B j (backView j img)
-    pub turn : (f x : ℕ) → f < fronts B → 0 < over f x img → (length (frontView f img) ≡ L .frontSlots) × (largest (frontView f img) ≤ x)
+    pub front : (f : ℕ) → f < fronts B → frontAt L f img ≡ accepted (inFront L f img)
+    pub frontGood : (f : ℕ) → f < fronts B → FrontList L (inFront L f img)
+    pub back : (j : ℕ) → j < backyards B → backAt L B j img ≡ accepted (inBack L B j img)
+    pub backGood : (j : ℕ) → j < backyards B → BackList L B j (inBack L B j img)
+    pub turn : (f x : ℕ) → f < fronts B → 0 < over f x img → (length (inFront L f img) ≡ L .frontSlots) × (largest (inFront L f img) ≤ x)
 
   -- `now` has one copy more of key x of front bucket f than `old`, and is else alike; a delete is this the other way round
   pub record OneMore (f x : ℕ) (old now : List ℕ) : Type 0 where

@@ -1,39 +1,30 @@
--- A bucket's list after a member joined it or left it: it can still stand there, and the members of other crumbs are as they were.
+-- A bucket's list after a member joined it or left it: it can still stand there, and each of its crumbs is valid.
+-- Main results: `front-added`, `front-removed`, `front-swapped`, `back-added`, `back-removed`.
 use mathlib.Core.Path.{_≡_, refl}
-use Prim.Native.Nat.{ℕ, _+_, _*_, _%_, _≤_, _<_}
+use Prim.Native.Nat.{ℕ, _+_, _*_, _%_, _<_}
 use mathlib.Core.Bool.{Bool, true, false, cond}
 use mathlib.Core.List.{List, [], _∷_}
 use native.Mathlib.Omega.{arith}
-use native.Mathlib.Decide.{ℕ-discrete}
 use lib.ListN.{length}
 use lib.Dec.{T, leb, eqb}
 use mir.Facts.{and-yes, yes-and}
-use Rattle.multiset.specs.Multisets.{added, removed, copies, largest}
-use Rattle.multiset.proofs.MultisetLaws.{hit, hit-same, hit-other, length-added, length-removed, ascending-added, ascending-removed, below-added, below-removed, copies-largest}
+use Rattle.multiset.specs.Multisets.{added, removed, copies}
+use Rattle.multiset.proofs.MultisetLaws.{length-added, length-removed, below-added, below-removed}
+use Rattle.multiset.proofs.OrderLaws.{ascending-added, ascending-removed}
 use Rattle.crumbmap.specs.Layouts.{Layout, keys, fronts}
-use Rattle.crumbmap.specs.CrumbMap.{home, bucketOf, crumbOf}
+use Rattle.crumbmap.specs.CrumbMap.{firstBucket, secondBucket, home, bucketOf, crumbOf}
 use Rattle.crumbmap.proofs.CrumbMapLaws.{crumbOf-lt, home-bucketOf}
 use Rattle.buckets.specs.Buckets.{isSome, valid, FrontList, BackList}
-
-pub hit-of : (x y : ℕ) → x ≡ y → hit x y ≡ 1
-hit-of x y p = rw p (hit-same y)
-
-pub hit-equal : (x y : ℕ) → 0 < hit x y → x ≡ y
-hit-equal x y h = elim (ℕ-discrete x y) [ yes p ↦ p | no n ↦ absurd (omega (arith, hit-other x y n, h)) ]
-
-pub hit-le-one : (x y : ℕ) → hit x y ≤ 1
-hit-le-one x y = elim (ℕ-discrete x y) [ yes p ↦ omega (arith, hit-of x y p) | no n ↦ omega (arith, hit-other x y n) ]
-
--- what no member exceeds, the largest does not
-pub largest-le : (k : ℕ) (xs : List ℕ) → ((z : ℕ) → 0 < copies z xs → z ≤ k) → largest xs ≤ k
-unfolding largest
-largest-le k [] m = omega arith
-largest-le k (x ∷ xs) m = m (largest (x ∷ xs)) (copies-largest (x ∷ xs) (omega arith))
+use Rattle.machine.specs.Images.{inBack}
 
 -- one of two lists, by the choice
 pub cond-choice : (held : Bool → List ℕ) (t : Bool) → cond t (held true) (held false) ≡ held t
 cond-choice held true = refl
 cond-choice held false = refl
+
+pub inBack-choice : (L : Layout) (B f : ℕ) (img : List ℕ) (t : Bool)
+    → cond t (inBack L B (firstBucket f) img) (inBack L B (secondBucket B f) img) ≡ inBack L B (bucketOf t B f) img
+inBack-choice L B f img = cond-choice (λ (t : Bool). inBack L B (bucketOf t B f) img)
 
 -- the choice's crumb, read back from a member
 pub crumb-back : (t : Bool) (f v : ℕ) → (v * 16 + crumbOf t f) % 16 ≡ crumbOf t f
@@ -76,6 +67,11 @@ module _ (L : Layout) where
     range = below-removed (keys L) x xs (l .range);
     room = omega (arith, length-removed x xs c, l .room);
   }
+
+  -- x gone, and y in its place
+  pub front-swapped : (x y : ℕ) (xs : List ℕ) → FrontList L xs → 0 < copies x xs → y < keys L → FrontList L (added y (removed x xs))
+  front-swapped x y xs l c k =
+      front-added y (removed x xs) (front-removed x xs l c) k (omega (arith, length-removed x xs c, l .room))
 
   module _ (B f v : ℕ) (t : Bool) (ys : List ℕ) (l : BackList L B (bucketOf t B f) ys) where
     pub back-added : f < fronts B → v < keys L → length ys < L .backSlots → BackList L B (bucketOf t B f) (added (v * 16 + crumbOf t f) ys)

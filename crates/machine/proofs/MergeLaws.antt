@@ -1,10 +1,10 @@
 -- Fresh and merge: the empty image is good and holds nothing; a merge of two good images is good and holds the members of both,
--- or is refused with 4. Main results: `empty-good`, `empty-total`, `merge-good`.
+-- or is refused with 4. Main results: `empty-good`, `empty-total`, `insertAll-keeps`, `insertAll-append`, `merge-good`.
 use mathlib.Core.Path.{_≡_, refl, sym, _∙_}
 use mathlib.Core.Logic.{_⊎_, inl, inr}
 use Prim.Native.Nat.{ℕ, zero, suc, _+_, _≤_, _<_}
 use mathlib.Core.Bool.{Bool, true, false}
-use mathlib.Core.List.{List, [], _∷_}
+use mathlib.Core.List.{List, [], _∷_, _++_}
 use native.Mathlib.Omega.{arith}
 use lib.ListN.{length}
 use lib.Dec.{eqb}
@@ -17,12 +17,13 @@ use Rattle.crumbmap.specs.CrumbMap.{bucketOf}
 use Rattle.crumbmap.proofs.CrumbMapLaws.{bucketOf-lt}
 use Rattle.buckets.specs.Buckets.{Fits64, valid, frontBytes, backBytes, FrontList, BackList}
 use Rattle.buckets.proofs.BucketLaws.{length-frontBytes, length-backBytes, frontMembers-frontBytes, backMembers-backBytes}
-use Rattle.machine.specs.Results.{accepted, refused, number}
-use Rattle.machine.specs.Images.{frontAt, backAt, emptyImage}
-use Rattle.machine.specs.Machine.{insertAt, membersAt}
+use Rattle.machine.specs.Results.{Result, accepted, refused, andThen, number}
+use Rattle.machine.specs.Images.{frontAt, backAt, inFront, inBack, emptyImage}
+use Rattle.machine.specs.Machine.{Change, insertAt, membersAt}
 use Rattle.machine.specs.Merges.{insertAll, mergeFrom, mergeSized}
-use Rattle.machine.proofs.ImageLaws.{sizeOf-some, sizeOf-lengthOf, length-empty, bucketAt-empty-front, bucketAt-empty-back}
-use Rattle.machine.proofs.Invariant.{Good, OneMore, frontView, backView, part, total}
+use Rattle.machine.proofs.AcceptedLaws.{same-answer, never-refused}
+use Rattle.machine.proofs.ImageLaws.{inFront-read, inBack-read, sizeOf-some, sizeOf-lengthOf, length-empty, bucketAt-empty-front, bucketAt-empty-back}
+use Rattle.machine.proofs.Invariant.{Good, OneMore, part, total}
 use Rattle.machine.proofs.InsertLaws.{Inserted, took, stuck, insert-keeps}
 use Rattle.machine.proofs.PageLaws.{Members, members-good}
 use Rattle.machine.proofs.CheckLaws.{check-good}
@@ -51,6 +52,18 @@ pub data MergedWhole (L : Layout) (B : ℕ) (a b : List ℕ) : Type 0 where
       → ((f x : ℕ) → f < fronts B → total L B f x now ≡ total L B f x a + total L B f x b) → MergedWhole L B a b
   no-space : mergeSized L B a b ≡ refused 4 0 → MergedWhole L B a b
 
+-- ---- lists one after the other
+
+pub insertAll-append : (L : Layout) (B f : ℕ) (xs ys img : List ℕ) → insertAll L B f (xs ++ ys) img ≡ andThen (insertAll L B f xs img) (insertAll L B f ys)
+unfolding insertAll
+insertAll-append L B f [] ys img = refl
+insertAll-append L B f (x ∷ xs) ys img = go (insertAt L B f x img) (λ now. insertAll-append L B f xs ys now)
+  where
+    go : (r : Result Change) → ((now : List ℕ) → insertAll L B f (xs ++ ys) now ≡ andThen (insertAll L B f xs now) (insertAll L B f ys))
+        → andThen r (λ c. insertAll L B f (xs ++ ys) (c .image)) ≡ andThen (andThen r (λ c. insertAll L B f xs (c .image))) (insertAll L B f ys)
+    go (accepted c) k = k (c .image)
+    go (refused n i) k = refl
+
 module _ (L : Layout) (fits : Fits64 L) where
   -- ---- the empty image
 
@@ -76,20 +89,18 @@ module _ (L : Layout) (fits : Fits64 L) where
   unfolding backAt
   back-empty B j h = rw (bucketAt-empty-back L B j front-long back-long h, backMembers-backBytes L fits B j [] (no-back B j)) refl
 
-  frontView-empty : (B f : ℕ) → f < fronts B → frontView L B f (emptyImage L B) ≡ []
-  unfolding frontView
-  frontView-empty B f h = rw (front-empty B f h) refl
+  inFront-empty : (B f : ℕ) → f < fronts B → inFront L f (emptyImage L B) ≡ []
+  inFront-empty B f h = inFront-read L f (emptyImage L B) [] (front-empty B f h)
 
-  backView-empty : (B j : ℕ) → j < backyards B → backView L B j (emptyImage L B) ≡ []
-  unfolding backView
-  backView-empty B j h = rw (back-empty B j h) refl
+  inBack-empty : (B j : ℕ) → j < backyards B → inBack L B j (emptyImage L B) ≡ []
+  inBack-empty B j h = inBack-read L B j (emptyImage L B) [] (back-empty B j h)
 
   part-empty : (t : Bool) (B f x : ℕ) → f < fronts B → part L B t f x (emptyImage L B) ≡ 0
   unfolding part copies
-  part-empty t B f x h = rw (backView-empty B (bucketOf t B f) (bucketOf-lt t B f h)) refl
+  part-empty t B f x h = rw (inBack-empty B (bucketOf t B f) (bucketOf-lt t B f h)) refl
 
   pub empty-total : (B f x : ℕ) → f < fronts B → total L B f x (emptyImage L B) ≡ 0
-  empty-total B f x h = rw (frontView-empty B f h) (omega (arith, part-empty true B f x h, part-empty false B f x h, nothing))
+  empty-total B f x h = rw (inFront-empty B f h) (omega (arith, part-empty true B f x h, part-empty false B f x h, nothing))
     where
       nothing : copies x [] ≡ 0
       nothing = unfold copies in refl
@@ -98,10 +109,10 @@ module _ (L : Layout) (fits : Fits64 L) where
   empty-good B p h =
       record {
         size = rw (length-empty L B front-long back-long) (sizeOf-lengthOf B p h);
-        front = λ f l. rw (frontView-empty B f l) (front-empty B f l);
-        frontGood = λ f l. rw (frontView-empty B f l) no-front;
-        back = λ j l. rw (backView-empty B j l) (back-empty B j l);
-        backGood = λ j l. rw (backView-empty B j l) (no-back B j);
+        front = λ f l. rw (inFront-empty B f l) (front-empty B f l);
+        frontGood = λ f l. rw (inFront-empty B f l) no-front;
+        back = λ j l. rw (inBack-empty B j l) (back-empty B j l);
+        backGood = λ j l. rw (inBack-empty B j l) (no-back B j);
         turn = λ f x l c. absurd (omega (arith, part-empty true B f x l, part-empty false B f x l));
       }
 
@@ -128,6 +139,15 @@ module _ (L : Layout) (fits : Fits64 L) where
       first : Inserted L B f x img → ((now : List ℕ) → Good L B now → InsertedAll L B f xs now) → InsertedAll L B f (x ∷ xs) img
       first (stuck e full) k = stuck-in (rw e refl)
       first (took a now e full g m) k = rest a now e m (k now g)
+
+  -- what took all of a list is good
+  pub insertAll-good : (B f : ℕ) → f < fronts B → (xs img : List ℕ) {now : List ℕ} → Good L B img → Below (keys L) xs
+      → insertAll L B f xs img ≡ accepted now → Good L B now × More L B f xs img now
+  insertAll-good B f h xs img {now} good b e = go (insertAll-keeps B f xs img good h b)
+    where
+      go : InsertedAll L B f xs img → Good L B now × More L B f xs img now
+      go (took-all end q g m) = let s : end ≡ now = same-answer (sym q ∙ e) in (rw s at g, rw s at m)
+      go (stuck-in q) = absurd (never-refused (sym e ∙ q))
 
   -- one front bucket of both, then the rest
   both-next : (B f : ℕ) (a b xs ys img i j now : List ℕ) → f < fronts B → Members L B f a xs → Members L B f b ys

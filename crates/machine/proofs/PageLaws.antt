@@ -14,11 +14,12 @@ use Rattle.crumbmap.specs.Layouts.{Layout, keys, fronts}
 use Rattle.crumbmap.specs.Fingerprints.{fingerprint}
 use Rattle.machine.specs.Results.{accepted, refused}
 use Rattle.machine.specs.Bags.{addedAll}
-use Rattle.machine.specs.Machine.{membersAt}
+use Rattle.machine.specs.Images.{inFront}
+use Rattle.machine.specs.Machine.{membersAt, overflow, overflowIn}
 use Rattle.machine.specs.Pages.{Run, runFrom, pageFrom}
 use Rattle.machine.proofs.BagLaws.{copies-addedAll, ascending-addedAll, below-addedAll}
-use Rattle.machine.proofs.Invariant.{Good, frontView, total}
-use Rattle.machine.proofs.Overflow.{overs, copies-overs, read-held, ascending-overs, below-overs}
+use Rattle.machine.proofs.Invariant.{Good, total}
+use Rattle.machine.proofs.OverflowLaws.{copies-overflowIn, bucketOf-read, ascending-overflowIn, below-overflowIn}
 use Rattle.machine.proofs.AskLaws.{over-none}
 use Rattle.machine.proofs.Segments.{Segment, segment-none, segment-append, segment-shifted, length-sum}
 
@@ -49,14 +50,14 @@ pub data Paged (L : Layout) (B : ℕ) (N : ℕ → ℕ) (s room : ℕ) (img : Li
 
 module _ (L : Layout) (B : ℕ) (img : List ℕ) (good : Good L B img) where
   pub members-good : (f : ℕ) → f < fronts B → (xs : List ℕ) × (membersAt L B f img ≡ accepted xs) × Members L B f img xs
-  unfolding membersAt
+  unfolding membersAt overflow
   members-good f h = go (ltb (length xs) (L .frontSlots)) refl
     where
       xs : List ℕ
-      xs = frontView L B f img
+      xs = inFront L f img
 
       others : List ℕ
-      others = overs L B f img
+      others = overflowIn L B f img
 
       go : (b : Bool) → ltb (length xs) (L .frontSlots) ≡ b → (xs : List ℕ) × (membersAt L B f img ≡ accepted xs) × Members L B f img xs
       go true e = (
@@ -70,11 +71,11 @@ module _ (L : Layout) (B : ℕ) (img : List ℕ) (good : Good L B img) where
       )
       go false e = (
         addedAll xs others,
-        rw (good .front f h, e, read-held L B f img good h true, read-held L B f img good h false) refl,
+        rw (good .front f h, e, bucketOf-read L B f img good h true, bucketOf-read L B f img good h false) refl,
         record {
-          order = ascending-addedAll xs others (ascending-overs L B f img good h);
-          range = below-addedAll (keys L) xs others (good .frontGood f h .range) (below-overs L B f img good h);
-          each = λ y. omega (arith, copies-addedAll y xs others, copies-overs L B f img y);
+          order = ascending-addedAll xs others (ascending-overflowIn L B f img good h);
+          range = below-addedAll (keys L) xs others (good .frontGood f h .range) (below-overflowIn L B f img good h);
+          each = λ y. omega (arith, copies-addedAll y xs others, copies-overflowIn L B f img y);
         },
       )
 

@@ -6,7 +6,7 @@ use mathlib.Core.Option.{Option, none, some}
 use lib.ListN.{length, take, drop}
 use lib.Dec.{leb, eqb}
 use Rattle.crumbmap.specs.Layouts.{Layout, fronts, backyards}
-use Rattle.buckets.specs.Buckets.{frontMembers, backMembers, frontBytes, backBytes}
+use Rattle.buckets.specs.Buckets.{frontMembers, backMembers, frontList, backList, frontBytes, backBytes}
 use Rattle.machine.specs.Results.{Result, orUnsound, orRefused}
 
 -- "a lent byte slice of 576 × B + 448 bytes"
@@ -44,6 +44,13 @@ module _ (L : Layout) where
   -- the members of backyard bucket j; "the table number of backyard bucket j is F + j"
   unfoldable pub backAt : ℕ → ℕ → List ℕ → Result (List ℕ)
   backAt B j img = orUnsound (fronts B + j) (backMembers L B j (bucketAt (fronts B + j) img))
+
+  -- the members of front bucket f, and of backyard bucket j, where they are sound
+  abbrev pub inFront : ℕ → List ℕ → List ℕ
+  inFront f img = frontList L (bucketAt f img)
+
+  abbrev pub inBack : ℕ → ℕ → List ℕ → List ℕ
+  inBack B j img = backList L (bucketAt (fronts B + j) img)
 
   unfoldable pub putFront : ℕ → List ℕ → List ℕ → List ℕ
   putFront f xs img = put f (frontBytes L xs) img

@@ -1,7 +1,7 @@
 -- The plain machine at one front bucket f, by key x: insert, delete, ask, count, and the members that a page and a merge list.
 -- Each is a chain of reads in document 01's order; any read may refuse, and only an accepted call has an image to leave.
 use Prim.Native.Nat.{ℕ, _+_, _*_}
-use mathlib.Core.Bool.{Bool, cond, _&&_}
+use mathlib.Core.Bool.{Bool, true, false, cond, _&&_}
 use mathlib.Core.List.{List, [], _∷_}
 use mathlib.Core.Option.{Option, none, some}
 use lib.ListN.{length}
@@ -10,8 +10,8 @@ use Rattle.multiset.specs.Multisets.{added, removed, copies, slotOf, largest}
 use Rattle.crumbmap.specs.Layouts.{Layout}
 use Rattle.crumbmap.specs.CrumbMap.{firstBucket, secondBucket, firstCrumb, secondCrumb, bucketOf, crumbOf}
 use Rattle.buckets.specs.Buckets.{carrying}
-use Rattle.machine.specs.Results.{Result, accepted, refused, andThen}
-use Rattle.machine.specs.Images.{frontAt, backAt, putFront, putBack}
+use Rattle.machine.specs.Results.{Result, accepted, refused, andThen, orRefused}
+use Rattle.machine.specs.Images.{frontAt, backAt, inBack, putFront, putBack}
 use Rattle.machine.specs.Bags.{addedAll, has, fromFirst}
 
 -- an insert's or a delete's answer, and the image after it
@@ -53,6 +53,10 @@ abbrev pub occupancy : Result (List ℕ) → ℕ
 occupancy (accepted xs) = length xs
 occupancy (refused n i) = 0
 
+-- which backyard bucket takes an overflow, by n0 and n1: "If both hold 22: full. Else .. First(f) if n0 < n1, else .. Second(f)"
+unfoldable pub taker : Layout → ℕ → ℕ → Option Bool
+taker L n0 n1 = cond (eqb n0 (L .backSlots) && eqb n1 (L .backSlots)) none (some (ltb n0 n1))
+
 module _ (L : Layout) (B f : ℕ) where
   -- "b0 and b1 are read"
   abbrev pub backyard : List ℕ → Result (List ℕ × List ℕ)
@@ -61,18 +65,11 @@ module _ (L : Layout) (B f : ℕ) where
       andThen (backAt L B (secondBucket B f) img) λ zs.
       accepted (ys, zs)
 
-  -- "If Front(f) has fewer than 28, g joins it. Otherwise read b0 and b1. If both hold 22: full. Else the largest of
-  -- Front(f) and g goes to First(f) if n0 < n1, else to Second(f); the rest are Front(f)."
-  unfoldable pub insertAt : ℕ → List ℕ → Result Change
-  insertAt x img =
-      andThen (frontAt L f img) λ xs.
-      cond (ltb (length xs) (L .frontSlots)) (changed 0 (putFront L f (added x xs) img))
-      (andThen (backyard img) λ b.
-      cond (eqb (length (b .0)) (L .backSlots) && eqb (length (b .1)) (L .backSlots)) (refused 4 0)
-      (let over : ℕ = largest (added x xs) in
-      let t : Bool = ltb (length (b .0)) (length (b .1)) in
-      changed (1 + bucketOf t B f)
-      (putBack L B (bucketOf t B f) (added (over * 16 + crumbOf t f) (cond t (b .0) (b .1))) (putFront L f (removed over (added x xs)) img))))
+  -- v joins one of the backyard buckets b, in an image whose front bucket is done; "1 + the backyard number that took the overflow"
+  unfoldable pub takeIn : ℕ → List ℕ × List ℕ → List ℕ → Result Change
+  takeIn v b img =
+      andThen (orRefused 4 (taker L (length (b .0)) (length (b .1)))) λ t.
+      changed (1 + bucketOf t B f) (putBack L B (bucketOf t B f) (added (v * 16 + crumbOf t f) (cond t (b .0) (b .1))) img)
 
   -- v leaves the backyard buckets b, in an image whose front bucket is done; "1 + the backyard number a member left"
   unfoldable pub takeOut : ℕ → List ℕ × List ℕ → List ℕ → Result Change
@@ -80,9 +77,26 @@ module _ (L : Layout) (B f : ℕ) where
       let t : Bool = fromFirst v (carrying (firstCrumb f) (b .0)) (carrying (secondCrumb f) (b .1)) (length (b .0)) (length (b .1)) in
       changed (1 + bucketOf t B f) (putBack L B (bucketOf t B f) (removed (v * 16 + crumbOf t f) (cond t (b .0) (b .1))) img)
 
+  -- "If Front(f) has fewer than 28, g joins it. Otherwise read b0 and b1. If both hold 22: full. Else the largest of
+  -- Front(f) and g goes to First(f) if n0 < n1, else to Second(f); the rest are Front(f)."
+  unfoldable pub insertAt : ℕ → List ℕ → Result Change
+  insertAt x img =
+      andThen (frontAt L f img) λ xs.
+      cond (ltb (length xs) (L .frontSlots)) (changed 0 (putFront L f (added x xs) img))
+      (andThen (backyard img) λ b.
+      let over : ℕ = largest (added x xs) in
+      takeIn over b (putFront L f (removed over (added x xs)) img))
+
   -- First(f) and Second(f) together
   unfoldable pub overflow : List ℕ × List ℕ → List ℕ
   overflow b = addedAll (carrying (firstCrumb f) (b .0)) (carrying (secondCrumb f) (b .1))
+
+  -- First(f), or Second(f), and both together, in an image in which b0 and b1 are sound
+  abbrev pub bagIn : Bool → List ℕ → List ℕ
+  bagIn t img = carrying (crumbOf t f) (inBack L B (bucketOf t B f) img)
+
+  abbrev pub overflowIn : List ℕ → List ℕ
+  overflowIn img = addedAll (bagIn true img) (bagIn false img)
 
   -- "the smallest member of First(f) and Second(f), if any, refills it"
   unfoldable pub refill : List ℕ → List ℕ → List ℕ × List ℕ → List ℕ → Result Change

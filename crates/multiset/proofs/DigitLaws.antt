@@ -1,7 +1,8 @@
 -- Digits: a number and its digits, a list of numbers and its digits, padding, and pairs as numbers undo each other.
 -- One set of laws serves the bytes of words and tags (base 256) and the halves of crumbs (base 16).
+-- Main results: `value-digits`, `digits-value`, `grouped-spread`, `spread-grouped`, `joined-padded`, `padded-joined`.
 use mathlib.Core.Path.{_≡_, refl, sym, ap, ap₂, _∙_}
-use Prim.Native.Nat.{ℕ, zero, suc, _+_, _*_, _/_, _%_, _-_, _^_, _≤_, _<_}
+use Prim.Native.Nat.{ℕ, zero, suc, _+_, _*_, _/_, _%_, _-_, _^_, _≤_, _<_, min}
 use mathlib.Core.List.{List, [], _∷_, _++_, append-assoc}
 use native.Mathlib.Nat.{pow-zero, pow-suc, pow-succ', zero-mul, mod-lt, mod-add-div, mod-eq-of-lt, div-eq-of-lt, div-lt-iff-lt-mul, le-div-iff-mul-le, div-mul-le-self, add-mul-mod-self-left, add-mul-div-left, mul-le-mul-left, div-add-mod'}
 use native.Mathlib.Omega.{arith}
@@ -12,27 +13,8 @@ use lib.Dec.{T, eqb, leb, eqb→eq, le→leb}
 use mir.Facts.{and-yes, yes-and}
 use Rattle.multiset.specs.Multisets.{allZero, atLeast, ascending, Below}
 use Rattle.multiset.specs.Digits.{digits, value, spread, grouped, padded, joined, highs, lows}
-use Rattle.multiset.proofs.MultisetLaws.{ascending-tail, ascending-le}
-
--- ---- members below a bound
-
-pub below-append : (k : ℕ) (xs ys : List ℕ) → Below k xs → Below k ys → Below k (xs ++ ys)
-below-append k [] ys a b = b
-below-append k (x ∷ xs) ys a b = (a .0, below-append k xs ys (a .1) b)
-
-pub below-take : (k n : ℕ) (xs : List ℕ) → Below k xs → Below k (take n xs)
-below-take k zero xs b = tt
-below-take k (suc n) [] b = tt
-below-take k (suc n) (x ∷ xs) b = (b .0, below-take k n xs (b .1))
-
-pub below-drop : (k n : ℕ) (xs : List ℕ) → Below k xs → Below k (drop n xs)
-below-drop k zero xs b = b
-below-drop k (suc n) [] b = tt
-below-drop k (suc n) (x ∷ xs) b = below-drop k n xs (b .1)
-
-pub below-replicate : (k n : ℕ) → 0 < k → Below k (replicate {A = ℕ} n 0)
-below-replicate k zero p = tt
-below-replicate k (suc n) p = (p, below-replicate k n p)
+use Rattle.multiset.proofs.MultisetLaws.{below-append, below-take, below-drop, below-replicate}
+use Rattle.multiset.proofs.OrderLaws.{ascending-tail, ascending-le}
 
 -- ---- a number
 
@@ -198,11 +180,14 @@ joined-take k [] rs = refl
 joined-take k (m ∷ ms) [] = refl
 joined-take k (m ∷ ms) (r ∷ rs) = ap {B = List ℕ} (λ l. (m * k + r) ∷ l) (joined-take k ms rs)
 
-pub length-joined : (k : ℕ) (ms rs : List ℕ) → length ms ≤ length rs → length (joined k ms rs) ≡ length ms
+pub length-joined-min : (k : ℕ) (ms rs : List ℕ) → length (joined k ms rs) ≡ min (length ms) (length rs)
 unfolding joined
-length-joined k [] rs h = refl
-length-joined k (m ∷ ms) [] h = absurd (omega arith)
-length-joined k (m ∷ ms) (r ∷ rs) h = ap suc (length-joined k ms rs (omega arith))
+length-joined-min k [] rs = omega arith
+length-joined-min k (m ∷ ms) [] = omega arith
+length-joined-min k (m ∷ ms) (r ∷ rs) = omega (arith, length-joined-min k ms rs)
+
+pub length-joined : (k : ℕ) (ms rs : List ℕ) → length ms ≤ length rs → length (joined k ms rs) ≡ length ms
+length-joined k ms rs h = omega (arith, length-joined-min k ms rs)
 
 pub highs-joined : (k : ℕ) (ms rs : List ℕ) → length ms ≤ length rs → Below k rs → highs k (joined k ms rs) ≡ ms
 unfolding joined

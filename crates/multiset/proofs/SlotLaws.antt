@@ -1,8 +1,8 @@
 -- A change of a multiset as a change at a slot: what stands in front of slot p stays, what stands behind it moves one on or back.
--- Main results: added-at, removed-at, which slots hold smaller members: slot-below, slot-above, and what a member less changes in that:
--- below-without, below-past.
-use mathlib.Core.Path.{_≡_, refl, ap}
-use Prim.Native.Nat.{ℕ, zero, suc, _≤_, _<_}
+-- Main results: `added-at`, `removed-at`; which slots hold smaller members: `slot-below`, `slot-above`, and what a member less changes in
+-- that: `below-without`, `below-past`; the first slots: `ascending-take`, `first-le`, `largest-first`; the last: `largest-at`.
+use mathlib.Core.Path.{_≡_, refl, ap, _∙_}
+use Prim.Native.Nat.{ℕ, zero, suc, _-_, _≤_, _<_}
 use mathlib.Core.List.{List, [], _∷_, _++_}
 use native.Mathlib.Decide.{decLe, ℕ-discrete}
 use native.Mathlib.Omega.{arith}
@@ -10,7 +10,9 @@ use lib.ListN.{length, take, drop, getD}
 use lib.Seq.{take-nil, drop-nil}
 use lib.Dec.{T}
 use Rattle.multiset.specs.Multisets.{added, removed, below, copies, largest, ascending}
-use Rattle.multiset.proofs.MultisetLaws.{added-front, added-behind, removed-here, removed-later, copies-cons, hit-other, below-smaller, below-other, below-none, below-suc, below-lt-length, ascending-tail, ascending-le}
+use Rattle.multiset.proofs.MultisetLaws.{hit-same, hit-other, hit-equal, added-front, added-behind, removed-here, removed-later, copies-cons}
+use Rattle.multiset.proofs.OrderLaws.{ascending-tail, ascending-le, ascending-cons, head-least}
+use Rattle.multiset.proofs.RankLaws.{below-smaller, below-other, below-none, below-suc, below-lt-length}
 
 added-head : (x y : ℕ) (ys : List ℕ) → T (ascending (y ∷ ys)) → x ≤ y → added x ys ≡ x ∷ ys
 unfolding added
@@ -116,15 +118,6 @@ module _ (x p : ℕ) (ys : List ℕ) (a : T (ascending ys)) (h : p < length ys) 
   pub holds-copy : 0 < copies x ys
   holds-copy = omega (arith, holds-from, holds-past, below-suc x ys)
 
--- the last slot holds the largest
-pub last-holds : (n : ℕ) (ys : List ℕ) → T (ascending ys) → length ys ≡ suc n → getD ys n 0 ≡ largest ys
-unfolding largest
-last-holds n [] a e = absurd (omega arith)
-last-holds zero (y ∷ []) a e = refl
-last-holds (suc n) (y ∷ []) a e = absurd (omega arith)
-last-holds zero (y ∷ z ∷ zs) a e = absurd (omega arith)
-last-holds (suc n) (y ∷ z ∷ zs) a e = last-holds n (z ∷ zs) (ascending-tail y (z ∷ zs) a) (omega arith)
-
 -- one y less: as many are below x, and one less where y was below x
 pub below-without : (x y : ℕ) (ys : List ℕ) → x ≤ y → below x (removed y ys) ≡ below x ys
 unfolding removed
@@ -155,3 +148,72 @@ below-past x y (z ∷ zs) l c = elim (ℕ-discrete y z) [
         )
       ]
 ]
+
+-- ---- the first members of an ascending list
+
+pub copies-take : (z k : ℕ) (xs : List ℕ) → 0 < copies z (take k xs) → 0 < copies z xs
+unfolding copies
+copies-take z zero xs c = absurd (omega arith)
+copies-take z (suc k) [] c = c
+copies-take z (suc k) (x ∷ xs) c = elim (ℕ-discrete z x) [
+  | yes e ↦ omega (arith, copies-cons z x xs, hit-equal z x e)
+  | no n ↦ omega (arith, copies-cons z x xs, copies-take z k xs (omega (arith, copies-cons z x (take k xs), hit-other z x n)))
+]
+
+pub ascending-take : (k : ℕ) (xs : List ℕ) → T (ascending xs) → T (ascending (take k xs))
+unfolding ascending
+ascending-take zero xs a = tt
+ascending-take (suc k) [] a = tt
+ascending-take (suc k) (x ∷ xs) a =
+    ascending-cons x (take k xs) (λ z c. head-least z x xs a (omega (arith, copies-cons z x xs, copies-take z k xs c)))
+    (ascending-take k xs (ascending-tail x xs a))
+
+pub ascending-drop : (k : ℕ) (xs : List ℕ) → T (ascending xs) → T (ascending (drop k xs))
+ascending-drop zero xs a = a
+ascending-drop (suc k) [] a = a
+ascending-drop (suc k) (x ∷ xs) a = ascending-drop k xs (ascending-tail x xs a)
+
+pub copies-at : (i : ℕ) (xs : List ℕ) → i < length xs → 0 < copies (getD xs i 0) xs
+copies-at i [] l = absurd (omega arith)
+copies-at zero (x ∷ xs) l = omega (arith, copies-cons x x xs, hit-same x)
+copies-at (suc i) (x ∷ xs) l = omega (arith, copies-cons (getD xs i 0) x xs, copies-at i xs (omega arith))
+
+pub ascending-at : (i j : ℕ) (xs : List ℕ) → T (ascending xs) → i ≤ j → j < length xs → getD xs i 0 ≤ getD xs j 0
+ascending-at i j [] a l h = absurd (omega arith)
+ascending-at zero j (x ∷ xs) a l h = head-least (getD (x ∷ xs) j 0) x xs a (copies-at j (x ∷ xs) h)
+ascending-at (suc i) zero (x ∷ xs) a l h = absurd (omega arith)
+ascending-at (suc i) (suc j) (x ∷ xs) a l h = ascending-at i j xs (ascending-tail x xs a) (omega arith) (omega arith)
+
+-- the first k are at most the member behind them
+pub first-le : (z k i : ℕ) (xs : List ℕ) → T (ascending xs) → k ≤ i → i < length xs → 0 < copies z (take k xs) → z ≤ getD xs i 0
+unfolding copies
+first-le z k i [] a l h c = absurd (omega arith)
+first-le z zero i (x ∷ xs) a l h c = absurd (omega arith)
+first-le z (suc k) zero (x ∷ xs) a l h c = absurd (omega arith)
+first-le z (suc k) (suc i) (x ∷ xs) a l h c = elim (ℕ-discrete z x) [
+  | yes e ↦ omega (arith, ascending-at 0 (suc i) (x ∷ xs) a (omega arith) h)
+  | no n ↦ first-le z k i xs (ascending-tail x xs a) (omega arith) (omega arith) (omega (arith, copies-cons z x (take k xs), hit-other z x n))
+]
+
+-- ---- the largest stands last
+
+pub largest-at : (xs : List ℕ) (i : ℕ) → length xs ≡ suc i → largest xs ≡ getD xs i 0
+unfolding largest
+largest-at [] i e = absurd (omega arith)
+largest-at (x ∷ []) zero e = refl
+largest-at (x ∷ []) (suc i) e = absurd (omega arith)
+largest-at (x ∷ y ∷ ys) zero e = absurd (omega arith)
+largest-at (x ∷ y ∷ ys) (suc i) e = largest-at (y ∷ ys) i (omega arith)
+
+-- the largest of the first is the last of them
+largest-take : (k : ℕ) (xs : List ℕ) → k < length xs → largest (take (suc k) xs) ≡ getD xs k 0
+unfolding largest
+largest-take k [] h = absurd (omega arith)
+largest-take zero (x ∷ xs) h = refl
+largest-take (suc k) (x ∷ []) h = absurd (omega arith)
+largest-take (suc k) (x ∷ y ∷ ys) h = largest-take k (y ∷ ys) (omega arith)
+
+pub largest-first : (k : ℕ) (xs : List ℕ) → 0 < k → k ≤ length xs → largest (take k xs) ≡ getD xs (k - 1) 0
+largest-first k xs p h =
+    let e : k ≡ suc (k - 1) = omega arith in
+    ap (λ (n : ℕ). largest (take n xs)) e ∙ largest-take (k - 1) xs (omega arith)

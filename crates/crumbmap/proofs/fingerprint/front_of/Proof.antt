@@ -10,9 +10,6 @@ use borrow.Author.Needs.{needs}
 use Rattle.crumbmap.proofs.fingerprint.front_of.Statement.{statement}
 use Rattle.crumbmap.proofs.fingerprint.front_of.Tie as tie
 
-mul-fronts : tie.Need-mul-fronts
-mul-fronts c = search needs
-
 mul-f : tie.Need-mul-f
 mul-f c = let q : c .args .hash / 4294967296 ≤ 4294967296 = omega arith in omega (arith, mul-le-mul-right (8 * c .args .size) q)
 
@@ -21,4 +18,4 @@ unfolding frontOf fronts
 returns c = (refl, frontOf-lt (c .args .size) (c .args .hash) (omega arith) (c .fits .hash .fits))
 
 pub front-of-spec : {M : Type 1} → statement M
-front-of-spec = tie.close (tie.spec mul-fronts mul-f returns)
+front-of-spec = tie.close (tie.spec (λ c. search needs) mul-f returns)

@@ -6,15 +6,9 @@ use borrow.Author.Needs.{needs}
 use Rattle.crumbmap.proofs.fingerprint.mini_of.Statement.{statement}
 use Rattle.crumbmap.proofs.fingerprint.mini_of.Tie as tie
 
-mul-m : tie.Need-mul-m
-mul-m c = search needs
-
-cast-result : tie.Need-cast-result
-cast-result c = search needs
-
 returns : tie.Need-returns
 unfolding miniOf
 returns c = (refl, omega arith)
 
 pub mini-of-spec : {M : Type 1} → statement M
-mini-of-spec = tie.close (tie.spec mul-m cast-result returns)
+mini-of-spec = tie.close (tie.spec (λ c. search needs) (λ c. search needs) returns)

@@ -3,6 +3,7 @@ use native.Mathlib.Omega.{arith}
 use mathlib.Core.Path.{refl}
 use Rattle.crumbmap.specs.Layouts.{fronts}
 use Rattle.crumbmap.specs.Fingerprints.{fingerprint}
+use borrow.Author.Needs.{needs}
 use Rattle.crumbmap.proofs.fingerprint.number_of.Statement.{statement}
 use Rattle.crumbmap.proofs.fingerprint.number_of.Tie as tie
 
@@ -19,4 +20,4 @@ unfolding fingerprint
 returns c = refl
 
 pub number-of-spec : {M : Type 1} → statement M
-number-of-spec = tie.close (tie.spec mul-result add-result returns)
+number-of-spec = tie.close (tie.spec (λ c. search needs) mul-result add-result returns)

@@ -6,12 +6,9 @@ use borrow.Author.Needs.{needs}
 use Rattle.crumbmap.proofs.fingerprint.tag_of.Statement.{statement}
 use Rattle.crumbmap.proofs.fingerprint.tag_of.Tie as tie
 
-cast-result : tie.Need-cast-result
-cast-result c = search needs
-
 returns : tie.Need-returns
 unfolding tagOf
 returns c = (refl, omega arith)
 
 pub tag-of-spec : {M : Type 1} → statement M
-tag-of-spec = tie.close (tie.spec cast-result returns)
+tag-of-spec = tie.close (tie.spec (λ c. search needs) (λ c. search needs) (λ c. search needs) returns)

@@ -7,12 +7,9 @@ use borrow.Author.Needs.{needs}
 use Rattle.crumbmap.proofs.map.first_of.Statement.{statement}
 use Rattle.crumbmap.proofs.map.first_of.Tie as tie
 
-cast-t7 : tie.Need-cast-t7
-cast-t7 c = search needs
-
 returns : tie.Need-returns
 unfolding firstBucket firstCrumb fronts backyards
 returns c = record { bucket = refl; crumb = refl; inside = omega arith; small = omega arith }
 
 pub first-of-spec : {M : Type 1} → statement M
-first-of-spec = tie.close (tie.spec cast-t7 returns)
+first-of-spec = tie.close (tie.spec (λ c. search needs) returns)

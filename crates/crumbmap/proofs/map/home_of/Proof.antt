@@ -6,16 +6,10 @@ use borrow.Author.Needs.{needs}
 use borrow.Author.Tests.{lt-ltb, le-ltb}
 use Rattle.crumbmap.specs.Layouts.{fronts}
 use Rattle.crumbmap.specs.CrumbMap.{home}
-use Rattle.crumbmap.specs.Places.{homeIn}
+use Rattle.crumbmap.specs.Steps.Places.{homeIn}
 use Rattle.crumbmap.proofs.CrumbMapLaws.{homeIn-lt}
 use Rattle.crumbmap.proofs.map.home_of.Statement.{statement}
 use Rattle.crumbmap.proofs.map.home_of.Tie as tie
-
-first-homes-requires : tie.Need-first-homes-requires
-first-homes-requires c κs = search needs
-
-cast-home-at : tie.Need-cast-home-at
-cast-home-at c = search needs
 
 -- a crumb of choice 0 is its digit
 by-first : (c : tie.After-first-homes) → let a = c .before .before .args in home (a .size) (a .from .0) (a .crumb) ≡ homeIn (c .first-homes .result) (a .crumb % 8)
@@ -34,12 +28,6 @@ home-at-requires c κs l =
 
 returns : tie.Need-returns
 returns c = rw (by-first (c .before)) (c .home-at .ensures)
-
-second-homes-requires : tie.Need-second-homes-requires
-second-homes-requires c κs = search needs
-
-cast-home-at-2 : tie.Need-cast-home-at-2
-cast-home-at-2 c = search needs
 
 -- a crumb of choice 1 is its digit and 8
 by-second : (c : tie.After-second-homes) → let a = c .before .before .args in home (a .size) (a .from .0) (a .crumb) ≡ homeIn (c .second-homes .result) (a .crumb % 8)
@@ -63,11 +51,11 @@ pub home-of-spec : {M : Type 1} → statement M
 home-of-spec =
     tie.close
     (tie.spec
-    first-homes-requires
-    cast-home-at
+    (λ c κs. search needs)
+    (λ c. search needs)
     home-at-requires
     returns
-    second-homes-requires
-    cast-home-at-2
+    (λ c κs. search needs)
+    (λ c. search needs)
     home-at-requires-2
     returns-2)

@@ -13,12 +13,6 @@ use Rattle.crumbmap.proofs.map.second_digits.Tie as tie
 returns : tie.Need-returns
 returns c = (zero-le, λ d l. rw (le-ltb _ 8 (c .if1 .taken), le-ltb d 0 zero-le))
 
-mul-left : tie.Need-mul-left
-mul-left c = search needs
-
-sub-left : tie.Need-sub-left
-sub-left c = search needs
-
 returns-2 : tie.Need-returns-2
 returns-2 c = (
   le-refl 8,
@@ -45,4 +39,4 @@ returns-3 c = (
 )
 
 pub second-digits-spec : {M : Type 1} → statement M
-second-digits-spec = tie.close (tie.spec returns mul-left sub-left returns-2 returns-3)
+second-digits-spec = tie.close (tie.spec returns (λ c. search needs) (λ c. search needs) returns-2 returns-3)

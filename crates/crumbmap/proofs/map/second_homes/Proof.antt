@@ -9,15 +9,6 @@ use Rattle.crumbmap.specs.CrumbMap.{stride, secondHome}
 use Rattle.crumbmap.proofs.map.second_homes.Statement.{statement}
 use Rattle.crumbmap.proofs.map.second_homes.Tie as tie
 
-stride-of-requires : tie.Need-stride-of-requires
-stride-of-requires c κs = search needs
-
-div-e : tie.Need-div-e
-div-e c = search needs
-
-rem-t : tie.Need-rem-t
-rem-t c = search needs
-
 -- 8t ≤ B
 below : (c : tie.After-stride-of) → 8 * (c .before .args .from .0 % c .stride-of .result) ≤ c .before .args .size
 unfolding stride
@@ -48,4 +39,4 @@ returns c = record {
 pub second-homes-spec : {M : Type 1} → statement M
 second-homes-spec =
     tie.close
-    (tie.spec stride-of-requires div-e rem-t second-digits-requires mul-t8 add-t9 returns)
+    (tie.spec (λ c κs. search needs) (λ c. search needs) (λ c. search needs) second-digits-requires mul-t8 add-t9 returns)

@@ -11,21 +11,12 @@ use borrow.Author.Needs.{needs}
 use Rattle.crumbmap.proofs.map.second_of.Statement.{statement}
 use Rattle.crumbmap.proofs.map.second_of.Tie as tie
 
-stride-of-requires : tie.Need-stride-of-requires
-stride-of-requires c κs = search needs
-
 mul-t8 : tie.Need-mul-t8
 mul-t8 c = let d : c .before .args .front .0 % 8 ≤ 7 = omega arith in omega (arith, mul-le-mul-right (c .stride-of .result) d)
 
 add-t9 : tie.Need-add-t9
 unfolding fronts
 add-t9 c = let d : c .before .args .front .0 % 8 ≤ 7 = omega arith in omega (arith, mul-le-mul-right (c .stride-of .result) d)
-
-add-t12 : tie.Need-add-t12
-add-t12 c = search needs
-
-cast-t13 : tie.Need-cast-t13
-cast-t13 c = search needs
 
 returns : tie.Need-returns
 unfolding firstBucket firstCrumb secondBucket secondCrumb
@@ -39,4 +30,4 @@ returns c =
     })
 
 pub second-of-spec : {M : Type 1} → statement M
-second-of-spec = tie.close (tie.spec stride-of-requires mul-t8 add-t9 add-t12 cast-t13 returns)
+second-of-spec = tie.close (tie.spec (λ c κs. search needs) mul-t8 add-t9 (λ c. search needs) (λ c. search needs) returns)

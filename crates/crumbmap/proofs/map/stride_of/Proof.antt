@@ -5,12 +5,9 @@ use borrow.Author.Needs.{needs}
 use Rattle.crumbmap.proofs.map.stride_of.Statement.{statement}
 use Rattle.crumbmap.proofs.map.stride_of.Tie as tie
 
-add-result : tie.Need-add-result
-add-result c = search needs
-
 returns : tie.Need-returns
 unfolding stride
 returns c = omega arith
 
 pub stride-of-spec : {M : Type 1} → statement M
-stride-of-spec = tie.close (tie.spec add-result returns)
+stride-of-spec = tie.close (tie.spec (λ c. search needs) returns)

@@ -2,22 +2,10 @@
 use native.Mathlib.Omega.{arith}
 use borrow.Author.Needs.{needs}
 use Rattle.crumbmap.specs.CrumbMap.{firstHome, secondHome}
-use Rattle.crumbmap.specs.Marks.{Marks}
+use Rattle.crumbmap.specs.Steps.Marks.{Marks}
 use Rattle.crumbmap.proofs.MarkLaws.{marks-back, marks-home}
 use Rattle.crumbmap.proofs.valid.valid_crumbs.Statement.{statement}
 use Rattle.crumbmap.proofs.valid.valid_crumbs.Tie as tie
-
-first-homes-requires : tie.Need-first-homes-requires
-first-homes-requires c κs = search needs
-
-second-homes-requires : tie.Need-second-homes-requires
-second-homes-requires c κs = search needs
-
-lowest-requires : tie.Need-lowest-requires
-lowest-requires c κs = search needs
-
-lowest-requires-2 : tie.Need-lowest-requires-2
-lowest-requires-2 c κs = search needs
 
 -- the digits of each choice
 firsts : (c : tie.After-lowest2) → let a = c .before .before .before .before .args in Marks 8 (firstHome (a .size) (a .from .0)) (c .before .lowest .result)
@@ -41,10 +29,10 @@ pub valid-crumbs-spec : {M : Type 1} → statement M
 valid-crumbs-spec =
     tie.close
     (tie.spec
-    first-homes-requires
-    second-homes-requires
-    lowest-requires
-    lowest-requires-2
+    (λ c κs. search needs)
+    (λ c κs. search needs)
+    (λ c κs. search needs)
+    (λ c κs. search needs)
     mul-result
     add-result
     returns)

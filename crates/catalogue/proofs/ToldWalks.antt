@@ -11,13 +11,14 @@ use Rattle.machine.specs.Results.{Result, accepted, refused}
 use Rattle.machine.specs.Pages.{Run}
 use Rattle.machine.specs.Calls.{pageOf}
 use Rattle.answers.specs.Answers.{extentOf}
-use Rattle.answers.specs.declared.Paged.the-variants as G
+use Rattle.answers.specs.declared.PageResult.the-variants as G
 use Rattle.history.specs.Histories as H
 use Rattle.history.specs.Histories.{Call, History, bytesAfter}
 use Rattle.history.specs.Walks as W
 use Rattle.catalogue.specs.Runs.{Performed, inserted, deleted, asked, counted, paged, Happened}
 use Rattle.catalogue.specs.Walks.{Walk, begun, continued, meanwhile, FullWalk, ended, since, Alters, entriesOf, nextOf}
-use Rattle.catalogue.proofs.RunLaws.{same-accepted, refusal-never, performed, kept}
+use Rattle.machine.proofs.AcceptedLaws.{same-answer}
+use Rattle.catalogue.proofs.ToldRuns.{refusal-never, performed, kept}
 
 -- on the machine, a page from s into so much room gives these entries and this next bucket
 pub record Gives (img : List ℕ) (s room : ℕ) (gs : List ℕ) (next : ℕ) : Type 0 where
@@ -37,7 +38,7 @@ GivesIf img (H.page s room) gs next = Gives img s room gs next
 -- a run whose extent is accepted is accepted
 extent-accepted : (m : Result Run) (n next : ℕ) → accepted (n, next) ≡ extentOf m → (r : Run) × (m ≡ accepted r) × (n ≡ length (r .entries)) × (next ≡ r .next)
 extent-accepted (accepted r) n next e =
-    let same = same-accepted e in
+    let same = same-answer e in
     (r, refl, ap (λ (p : ℕ × ℕ). p .0) same, ap (λ (p : ℕ × ℕ). p .1) same)
 extent-accepted (refused i j) n next e = let z : _≡_ {A = ℕ} 0 1 = cc in absurd (omega arith)
 

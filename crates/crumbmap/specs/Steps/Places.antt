@@ -1,12 +1,13 @@
 -- The map as the code's answers give it.
 use mathlib.Core.Path.{_≡_}
 use Prim.Native.Nat.{ℕ, _+_, _*_, _<_, _≤_}
-use mathlib.Core.Bool.{Bool, cond}
+use mathlib.Core.Bool.{Bool, true, false, cond}
 use mathlib.Core.Option.{Option, none, some}
 use lib.Dec.{ltb}
 use Rattle.crumbmap.specs.Layouts.{backyards}
 use Rattle.crumbmap.specs.CrumbMap.{bucketOf, crumbOf}
 use Rattle.crumbmap.specs.declared.Overflow.{Overflow}
+use Rattle.crumbmap.specs.declared.Ways.{Ways}
 use Rattle.crumbmap.specs.declared.Homes.{Homes}
 use Rattle.crumbmap.specs.declared.Home.{Home}
 use Rattle.crumbmap.specs.declared.Home.the-variants.{At, Invalid}
@@ -17,6 +18,11 @@ pub record Leads (t : Bool) (B f : ℕ) (r : Overflow) : Type 0 where
   pub crumb : r .crumb ≡ crumbOf t f
   pub inside : r .bucket .0 < backyards B
   pub small : r .crumb < 16
+
+-- both choices
+pub record LeadsBoth (B f : ℕ) (r : Ways) : Type 0 where
+  pub first : Leads true B f (r .first)
+  pub second : Leads false B f (r .second)
 
 -- the front bucket of the way back
 abbrev pub homeOf : Option ℕ → Home

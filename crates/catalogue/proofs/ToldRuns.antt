@@ -18,9 +18,6 @@ use Rattle.catalogue.specs.Runs.{Performed, inserted, deleted, asked, co
 
 -- ---- answers
 
-pub same-accepted : {A : Type 0} {a b : A} → accepted a ≡ accepted b → a ≡ b
-same-accepted e = cc
-
 -- a refusal is no accepted answer
 pub refusal-never : (A : Type 0) (x : Refusal) → number (refusal {A = A} x) ≡ 0 → ⊥
 refusal-never A R.WrongLength e = omega arith

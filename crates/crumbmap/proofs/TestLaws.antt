@@ -1,4 +1,4 @@
--- Two tests of which both hold.
+-- Two tests of which both hold: `true-both`, `both-true`, and either alone, `left-true`, `right-true`.
 use mathlib.Core.Path.{_≡_, refl}
 use Prim.Native.Nat.{ℕ}
 use mathlib.Core.Bool.{Bool, true, false, _&&_}
