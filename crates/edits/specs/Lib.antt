@@ -1,2 +1,2 @@
 -- One bucket as the contracts of its edits speak of it.
-pub mod Edits
+pub mod Steps

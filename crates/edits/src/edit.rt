@@ -1,20 +1,23 @@
 // Insert and remove of one member in place, and the empty bucket.
 
+use crumbmap::layout::TAGS;
+use minifilter::slots;
 use words::word;
 ghost use mathlib.Core.Path.{_≡_};
-ghost use Prim.Native.Nat.{_+_, _*_, _/_, _%_, _^_, _<_, _≤_};
+ghost use Prim.Native.Nat.{_+_, _*_, _/_, _%_, _<_, _≤_};
 ghost use mathlib.Core.List.{[]};
 ghost use lib.ListN.{length, take, getD, replicate};
-ghost use Rattle.multiset.specs.Multisets.{added, removed, below};
-ghost use Rattle.multiset.specs.Digits.{digits, value};
-ghost use Rattle.crumbmap.specs.Layouts.{layout1, keys};
-ghost use Rattle.buckets.specs.Buckets.{frontBytes, backBytes};
-ghost use Rattle.minifilter.specs.Readings.{SoundFront, SoundBack, frontList, backList};
-ghost use Rattle.edits.specs.Edits.{inserted, takenOut, slotInserted, slotRemoved, crumbInserted, crumbRemoved, halfPushed, halfPopped};
+ghost use Rattle.multiset.specs.Multisets.{added, removed};
+ghost use Rattle.multiset.specs.Digits.{digits};
+ghost use Rattle.crumbmap.specs.Layouts.{layout1, tags};
+ghost use Rattle.buckets.specs.Buckets.{frontBytes, backBytes, frontList, backList};
+ghost use Rattle.words.specs.Steps.Wide.{wordBytes1};
+ghost use Rattle.minifilter.specs.Steps.Readings.{SoundFront, SoundBack};
+ghost use Rattle.edits.specs.Steps.Edits.{inserted, takenOut, slotInserted, slotRemoved, crumbInserted, crumbRemoved, halfPushed, halfPopped, FrontInsert, BackInsert, FrontSwap, TagRoom1, InsertRoom1};
 
 // A tag is put in at a slot of the tags' bytes, and the last one falls off.
 fn insert_tag(s: &mut [u8], slot: usize, tag: u32)
-    requires { ⌜ (length (now s) % 2 ≡ 0) × (slot * 2 + 2 ≤ length (now s)) × (tag < 65536) ⌝ }
+    requires { ⌜ (length (now s) % 2 ≡ 0) × (slot * 2 + 2 ≤ length (now s)) × (tag < tags layout1) ⌝ }
     ensures { λ _. ⌜ now (s .exit) ≡ take (length (now (s .entry))) (inserted (slot * 2) (digits 256 2 tag) (now (s .entry))) ⌝ }
 {
     let from = slot * 2;
@@ -114,57 +117,65 @@ fn remove_crumb(s: &mut [u8], slot: usize)
 
 // Word and tags of a bucket whose tags end at byte `end`: a key is put in at a slot.
 fn insert_slot(b: &mut [u8], end: usize, slot: usize, key: u32)
-    requires { ⌜ (length (now b) ≡ 64) × (end ≤ 64) × (end % 2 ≡ 0) × (slot * 2 + 10 ≤ end)
-        × (key < keys layout1) × (value 256 (take 8 (now b)) < 2 ^ 63) ⌝ }
-    ensures { λ _. ⌜ now (b .exit) ≡ slotInserted end slot key (now (b .entry)) ⌝ }
+    requires { ⌜ InsertRoom1 (now b) end slot key ⌝ }
+    ensures { λ _. ⌜ now (b .exit) ≡ slotInserted layout1 wordBytes1 end slot key (now (b .entry)) ⌝ }
 {
     let word = word::word_of(b);
-    insert_tag(&mut b[8..end], slot, key % 65_536);
-    word::put_word(b, word::open_bit(word, key / 65_536 + (slot as u32)));
+    insert_tag(&mut b[slots::TAGS_AT..end], slot, key % TAGS);
+    word::put_word(b, word::open_bit(word, key / TAGS + (slot as u32)));
 }
 
 // The key at a slot, of mini-bucket `mini`, is taken out.
 fn remove_slot(b: &mut [u8], end: usize, slot: usize, mini: u32)
-    requires { ⌜ (length (now b) ≡ 64) × (end ≤ 64) × (end % 2 ≡ 0) × (slot * 2 + 10 ≤ end) × (mini < 36) ⌝ }
-    ensures { λ _. ⌜ now (b .exit) ≡ slotRemoved end slot mini (now (b .entry)) ⌝ }
+    requires { ⌜ TagRoom1 (now b) end slot × (mini < layout1 .minis) ⌝ }
+    ensures { λ _. ⌜ now (b .exit) ≡ slotRemoved layout1 wordBytes1 end slot mini (now (b .entry)) ⌝ }
 {
     let word = word::word_of(b);
-    remove_tag(&mut b[8..end], slot);
+    remove_tag(&mut b[slots::TAGS_AT..end], slot);
     word::put_word(b, word::close_bit(word, mini + (slot as u32)));
 }
 
 // A key joins a front bucket that has a free slot, behind the members below it.
 pub fn insert_front(b: &mut [u8], slot: usize, key: u32)
-    requires { ⌜ SoundFront (now b) × (length (frontList (now b)) < 28) × (key < keys layout1) × (slot ≡ below key (frontList (now b))) ⌝ }
-    ensures { λ _. ⌜ now (b .exit) ≡ frontBytes layout1 (added key (frontList (now (b .entry)))) ⌝ }
+    requires { ⌜ FrontInsert layout1 (now b) slot key ⌝ }
+    ensures { λ _. ⌜ now (b .exit) ≡ frontBytes layout1 (added key (frontList layout1 (now (b .entry)))) ⌝ }
 {
     insert_slot(b, 64, slot, key);
 }
 
 // The key at a slot leaves a front bucket.
 pub fn remove_front(b: &mut [u8], slot: usize, key: u32)
-    requires { ⌜ SoundFront (now b) × (slot < length (frontList (now b))) × (getD (frontList (now b)) slot 0 ≡ key) ⌝ }
-    ensures { λ _. ⌜ now (b .exit) ≡ frontBytes layout1 (removed key (frontList (now (b .entry)))) ⌝ }
+    requires { ⌜ SoundFront layout1 (now b) × (slot < length (frontList layout1 (now b))) × (getD (frontList layout1 (now b)) slot 0 ≡ key) ⌝ }
+    ensures { λ _. ⌜ now (b .exit) ≡ frontBytes layout1 (removed key (frontList layout1 (now (b .entry)))) ⌝ }
 {
-    remove_slot(b, 64, slot, key / 65_536);
+    remove_slot(b, 64, slot, key / TAGS);
+}
+
+// The key at slot `at` leaves a front bucket, and another joins behind `slot` of those that are left.
+pub fn swap_front(b: &mut [u8], at: usize, from: u32, slot: usize, to: u32)
+    requires { ⌜ FrontSwap layout1 (now b) at from slot to ⌝ }
+    ensures { λ _. ⌜ now (b .exit) ≡ frontBytes layout1 (added to (removed from (frontList layout1 (now (b .entry))))) ⌝ }
+{
+    remove_front(b, at, from);
+    insert_front(b, slot, to);
 }
 
 // A member, key × 16 + crumb, joins a backyard bucket that has a free slot, behind the members below it.
 pub fn insert_back(b: &mut [u8], slot: usize, member: u32)
-    requires { ⌜ SoundBack (now b) × (length (backList (now b)) < 22) × (member < keys layout1 * 16) × (slot ≡ below member (backList (now b))) ⌝ }
-    ensures { λ _. ⌜ now (b .exit) ≡ backBytes layout1 (added member (backList (now (b .entry)))) ⌝ }
+    requires { ⌜ BackInsert layout1 (now b) slot member ⌝ }
+    ensures { λ _. ⌜ now (b .exit) ≡ backBytes layout1 (added member (backList layout1 (now (b .entry)))) ⌝ }
 {
-    insert_slot(b, 52, slot, member / 16);
-    insert_crumb(&mut b[52..64], slot, member % 16);
+    insert_slot(b, slots::CRUMBS_AT, slot, member / 16);
+    insert_crumb(&mut b[slots::CRUMBS_AT..64], slot, member % 16);
 }
 
 // The member at a slot leaves a backyard bucket.
 pub fn remove_back(b: &mut [u8], slot: usize, member: u32)
-    requires { ⌜ SoundBack (now b) × (slot < length (backList (now b))) × (getD (backList (now b)) slot 0 ≡ member) ⌝ }
-    ensures { λ _. ⌜ now (b .exit) ≡ backBytes layout1 (removed member (backList (now (b .entry)))) ⌝ }
+    requires { ⌜ SoundBack layout1 (now b) × (slot < length (backList layout1 (now b))) × (getD (backList layout1 (now b)) slot 0 ≡ member) ⌝ }
+    ensures { λ _. ⌜ now (b .exit) ≡ backBytes layout1 (removed member (backList layout1 (now (b .entry)))) ⌝ }
 {
-    remove_slot(b, 52, slot, member / 1_048_576);
-    remove_crumb(&mut b[52..64], slot);
+    remove_slot(b, slots::CRUMBS_AT, slot, member / slots::BACK_SPAN);
+    remove_crumb(&mut b[slots::CRUMBS_AT..64], slot);
 }
 
 // All bytes 0.
@@ -183,6 +194,6 @@ pub fn clear(b: &mut [u8])
     requires { ⌜ length (now b) ≡ 64 ⌝ }
     ensures { λ _. ⌜ now (b .exit) ≡ frontBytes layout1 [] ⌝ }
 {
-    zero(&mut b[8..64]);
-    word::put_word(b, 68_719_476_735);
+    zero(&mut b[slots::TAGS_AT..64]);
+    word::put_word(b, word::EMPTY);
 }

@@ -1,5 +1,8 @@
 -- Laws of the reader, of search and of lists.
 pub mod PassLaws
+pub mod SlotOrder
 pub mod ReadLaws
-pub mod FindLaws
+pub mod CrumbLaws
+pub mod HeldLaws
+pub mod SearchLaws
 pub mod ListLaws

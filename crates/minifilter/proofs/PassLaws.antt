@@ -1,43 +1,33 @@
--- What the reader's pass over all slots meets: the mini-buckets of a word's zeros, what each slot holds, and what is still to be said from a slot on.
--- Main results: `slotMinis-run`, `slotMinis-gaps`, `zero-at`, `slotMembers-at`, `pass-start`, `pass-stop`, `pass-on`, `pass-end`, and for the
--- slots below x `tally-smaller`, `tally-other`, `tally-end`.
+-- What the reader's pass over all slots meets, at any layout: the mini-buckets of a word's zeros, what each slot holds, and what is still to be
+-- said from a slot on. Main results: `slotMinis-run`, `slotMinis-gaps`, `zero-at`, `slotMembers-at`, `pass-start`, `pass-stop`, `pass-on`,
+-- `pass-end`, and for the slots below x `below-rest-smaller`, `below-rest-other`, `below-rest-none`. The last section is of layout 1.
 use mathlib.Core.Path.{_≡_, refl, sym, _∙_, ap}
-use Prim.Native.Nat.{ℕ, zero, suc, _+_, _*_, _-_, _^_, _≤_, _<_, min}
-use native.Mathlib.Nat.{le-refl}
-use native.Mathlib.Omega.{arith}
+use Prim.Native.Nat.{ℕ, zero, suc, _+_, _*_, _-_, _^_, _≤_, _<_, _%_}
 use mathlib.Core.Bool.{Bool, true, false, and-true}
 use mathlib.Core.List.{List, [], _∷_, _++_}
-use mathlib.Core.Option.{some}
-use lib.ListN.{length, drop, getD, replicate, length-append, length-replicate, length-drop, drop-of-length-le}
-use lib.Seq.{drop-cons}
+use native.Mathlib.Nat.{le-refl}
+use native.Mathlib.Omega.{arith}
+use lib.ListN.{length, drop, getD, replicate, length-append, length-replicate, drop-of-length-le, List·getD-append, take}
+use lib.Seq.{drop-cons, drop-drop}
 use lib.Count.{ones, trailingZeros}
 use lib.Bits.{bitAnd}
 use lib.Dec.{leb, leb·zero}
 use borrow.Author.Tests.{lt-leb, le-leb}
-use Rattle.multiset.specs.Multisets.{ascending, atLeast, below, Below}
-use Rattle.multiset.specs.Digits.{grouped, joined}
-use Rattle.multiset.proofs.MultisetLaws.{below-smaller, below-other}
-use Rattle.multiset.proofs.DigitLaws.{length-spread, length-grouped, length-joined, below-spread}
-use Rattle.buckets.specs.Words.{minisFrom, minisOf}
-use Rattle.minifilter.specs.Slots.{slotCount, slotCrumbs, memberOf, membersOf, slotMinis, slotMembers}
-use Rattle.buckets.proofs.WordLaws.{Run, Coded, minis-ones, coded-minis, coded-run}
-use Rattle.buckets.proofs.ElementLaws.{grouped-at}
+use Rattle.multiset.specs.Multisets.{ascending, atLeast, below}
+use Rattle.multiset.specs.Digits.{joined, value}
+use Rattle.crumbmap.specs.Layouts.{Layout, tags, layout1}
+use Rattle.buckets.specs.Words.{minisIn}
+use Rattle.buckets.specs.Buckets.{Fits64}
+use Rattle.words.specs.Steps.Wide.{wordBytes1}
+use Rattle.minifilter.specs.Steps.Slots.{slotsOf, slotCrumbs, memberOf, withCrumbs, headOf, bitsOf, zerosOf, wordOf, tagsOf, tagAt, minisOf, slotMinis, slotMembers}
+use Rattle.multiset.proofs.RankLaws.{below-smaller, below-other}
+use Rattle.multiset.proofs.DigitLaws.{length-joined}
+use Rattle.buckets.proofs.WordLaws.{Run, coded-minisIn, minisIn-run}
+use Rattle.buckets.proofs.ElementLaws.{grouped-at, joined-at}
+use Rattle.buckets.proofs.PieceLaws.{length-joined-min}
 use Rattle.buckets.proofs.GapLaws.{gaps, gaps-word, gap-place, gap-next, gap-below, gap-some}
-
--- ---- joined lists
-
-pub joined-at : (k : ℕ) (ms rs : List ℕ) (s : ℕ) → s < length ms → s < length rs → getD (joined k ms rs) s 0 ≡ getD ms s 0 * k + getD rs s 0
-unfolding joined
-joined-at k [] rs s h l = absurd (omega arith)
-joined-at k (m ∷ ms) [] s h l = absurd (omega arith)
-joined-at k (m ∷ ms) (r ∷ rs) zero h l = refl
-joined-at k (m ∷ ms) (r ∷ rs) (suc s) h l = joined-at k ms rs s (omega arith) (omega arith)
-
-pub length-joined-min : (k : ℕ) (ms rs : List ℕ) → length (joined k ms rs) ≡ min (length ms) (length rs)
-unfolding joined
-length-joined-min k [] rs = omega arith
-length-joined-min k (m ∷ ms) [] = omega arith
-length-joined-min k (m ∷ ms) (r ∷ rs) = omega (arith, length-joined-min k ms rs)
+use Rattle.buckets.proofs.SlotBytes.{length-tagsIn}
+use Rattle.buckets.proofs.BucketLaws.{length-crumbsIn}
 
 -- ---- the word's zeros
 
@@ -46,98 +36,103 @@ run-padded lo hi zero [] h r = tt
 run-padded lo hi (suc p) [] h r = (h, le-refl (suc hi), run-padded hi hi p [] (le-refl hi) tt)
 run-padded lo hi p (m ∷ ms) h r = (r .0, omega arith, run-padded m hi p ms (omega arith) (r .2))
 
-pub run-below : (lo hi : ℕ) (ms : List ℕ) → Run lo hi ms → Below hi ms
-run-below lo hi [] r = tt
-run-below lo hi (m ∷ ms) r = (r .1, run-below m hi ms (r .2))
+-- z are the zeros from slot s on, where those of all slots stand over ms: the lowest stands over the mini-bucket of s, the others are those
+-- from the next slot on
+pub record ZeroAt (bits minis : ℕ) (ms : List ℕ) (s z : ℕ) : Type 0 where
+  pub place : trailingZeros bits z ≡ getD ms s 0 + s
+  pub mini : getD ms s 0 ≤ minis
+  pub some : 0 < z
+  pub next : bitAnd z (z - 1) ≡ gaps (suc s) (drop (suc s) ms)
 
-module _ (w : ℕ) (small : w < 2 ^ 64) (full : ones w ≡ 36) where
-  pub minis-word : minisFrom 64 36 0 w ≡ some (minisOf w)
-  unfolding minisOf
-  minis-word = let t = minis-ones 64 36 0 w small full in rw (t .1)
+module _ (L : Layout) (crumbs : Bool) where
+  -- a bit for each mini-bucket and slot
+  pub bits-room : L .minis + slotsOf L crumbs ≤ bitsOf L crumbs
+  bits-room = omega arith
 
-  coded-word : Coded 36 0 (minisOf w) w × (36 + length (minisOf w) ≤ 64)
-  coded-word = coded-minis 64 36 0 w (minisOf w) minis-word
+  module _ (w : ℕ) (small : w < 2 ^ bitsOf L crumbs) (full : ones w ≡ L .minis) where
+    pub length-slotMinis : length (slotMinis L crumbs w) ≡ zerosOf L crumbs
+    unfolding slotMinis
+    length-slotMinis = rw (length-append, length-replicate) (omega (arith, coded-minisIn (bitsOf L crumbs) (L .minis) w small full .1))
 
-  pub minisOf-run : Run 0 36 (minisOf w)
-  minisOf-run = coded-run (coded-word .0)
+    pub slotMinis-run : Run 0 (suc (L .minis)) (slotMinis L crumbs w)
+    unfolding slotMinis
+    slotMinis-run = run-padded 0 (L .minis) (zerosOf L crumbs - length (minisOf L crumbs w)) (minisOf L crumbs w) (omega arith)
+        (minisIn-run (bitsOf L crumbs) (L .minis) w small full)
 
-  pub length-slotMinis : length (slotMinis w) ≡ 28
-  unfolding slotMinis
-  length-slotMinis = rw (length-append, length-replicate) (omega (arith, coded-word .1))
+    pub slotMinis-gaps : gaps 0 (slotMinis L crumbs w) + (1 + w) ≡ 2 ^ bitsOf L crumbs
+    unfolding slotMinis
+    slotMinis-gaps =
+        let c = coded-minisIn (bitsOf L crumbs) (L .minis) w small full in
+        gaps-word (zerosOf L crumbs - length (minisOf L crumbs w)) (bitsOf L crumbs) (c .0) (omega (arith, c .1))
 
-  pub slotMinis-run : Run 0 37 (slotMinis w)
-  unfolding slotMinis
-  slotMinis-run = run-padded 0 36 (28 - length (minisOf w)) (minisOf w) (omega arith) minisOf-run
+    -- a slot in use stands over its member's mini-bucket
+    pub slotMinis-used : (s : ℕ) → s < length (minisOf L crumbs w) → getD (slotMinis L crumbs w) s 0 ≡ getD (minisOf L crumbs w) s 0
+    unfolding slotMinis
+    slotMinis-used s h = List·getD-append (minisOf L crumbs w) _ 0 s h
 
-  pub slotMinis-gaps : gaps 0 (slotMinis w) + (1 + w) ≡ 2 ^ 64
-  unfolding slotMinis
-  slotMinis-gaps = gaps-word (28 - length (minisOf w)) 64 (coded-word .0) (omega (arith, coded-word .1))
+    pub zero-at : (s z : ℕ) → s < zerosOf L crumbs → z ≡ gaps s (drop s (slotMinis L crumbs w))
+        → ZeroAt (bitsOf L crumbs) (L .minis) (slotMinis L crumbs w) s z
+    zero-at s z h e =
+        let ms = slotMinis L crumbs w in
+        let top : ℕ = suc (L .minis) in
+        let bits = bitsOf L crumbs in
+        let l = length-slotMinis in
+        let r = bits-room in
+        let fits : top + length ms ≤ suc bits = omega (arith, l, r) in
+        let k : s < length ms = omega (arith, l) in
+        let below = gap-below top bits ms slotMinis-run fits s k in
+        record {
+          place = rw e (gap-place top bits ms slotMinis-run fits s k);
+          mini = omega (arith, below);
+          some = rw e (gap-some top bits ms slotMinis-run fits s k);
+          next = ap (λ (x : ℕ). bitAnd x (x - 1)) e ∙ gap-next top bits ms slotMinis-run fits s k;
+        }
 
--- ---- what the pass over the slots meets
+-- ---- what the slots hold
 
--- z are the zeros from slot s on: the lowest stands over the mini-bucket of s, the others are those from the next slot on
-abbrev pub ZeroAt : ℕ → ℕ → ℕ → Type 0
-ZeroAt w s z =
-    (trailingZeros 64 z ≡ getD (slotMinis w) s 0 + s) × (getD (slotMinis w) s 0 < 37) × (0 < z)
-    × (bitAnd z (z - 1) ≡ gaps (suc s) (drop (suc s) (slotMinis w)))
+pub tag-in : (L : Layout) (crumbs : Bool) (b : List ℕ) (i : ℕ) → i < slotsOf L crumbs → getD (tagsOf L crumbs b) i 0 ≡ tagAt L crumbs b i
+tag-in L crumbs b i h =
+    grouped-at 256 (L .tagBytes) (slotsOf L crumbs) (drop (headOf L crumbs) b) i h ∙ rw (drop-drop (i * L .tagBytes) (headOf L crumbs) b)
 
-pub zero-at : (w s z : ℕ) → w < 2 ^ 64 → ones w ≡ 36 → s < 28 → z ≡ gaps s (drop s (slotMinis w)) → ZeroAt w s z
-zero-at w s z small full h e =
-    let l = length-slotMinis w small full in
-    let run = slotMinis-run w small full in
-    let fits : 37 + length (slotMinis w) ≤ 65 = omega arith in
-    let k : s < length (slotMinis w) = omega arith in (
-      rw e (gap-place 37 64 (slotMinis w) run fits s k),
-      gap-below 37 64 (slotMinis w) run fits s k,
-      rw e (gap-some 37 64 (slotMinis w) run fits s k),
-      ap (λ (x : ℕ). bitAnd x (x - 1)) e ∙ gap-next 37 64 (slotMinis w) run fits s k,
-    )
+module _ (L : Layout) (fits : Fits64 L) (b : List ℕ) (long : length b ≡ 64) where
+  pub length-slotCrumbs : L .backSlots ≤ length (slotCrumbs L true b)
+  length-slotCrumbs = omega (arith, length-crumbsIn L b long, fits .back)
 
-pub length-slotCrumbs : (b : List ℕ) → length b ≡ 64 → length (slotCrumbs true b) ≡ 24
-length-slotCrumbs b long = rw (length-spread 16 2 (drop 52 b), length-drop 52 b, long)
+  pub length-withCrumbs : (crumbs : Bool) (xs : List ℕ) → length xs ≤ slotsOf L crumbs
+      → length (withCrumbs crumbs xs (slotCrumbs L crumbs b)) ≡ length xs
+  length-withCrumbs true xs h = length-joined 16 xs (slotCrumbs L true b) (omega (arith, length-slotCrumbs))
+  length-withCrumbs false xs h = refl
 
-pub below-slotCrumbs : (b : List ℕ) → Below 16 (slotCrumbs true b)
-below-slotCrumbs b = below-spread 16 2 (drop 52 b) (omega arith)
+  withCrumbs-at : (crumbs : Bool) (xs : List ℕ) (s : ℕ) → length xs ≤ slotsOf L crumbs → s < length xs
+      → getD (withCrumbs crumbs xs (slotCrumbs L crumbs b)) s 0 ≡ memberOf crumbs (getD xs s 0) (getD (slotCrumbs L crumbs b) s 0)
+  withCrumbs-at true xs s h l = joined-at 16 xs (slotCrumbs L true b) s l (omega (arith, length-slotCrumbs))
+  withCrumbs-at false xs s h l = refl
 
-pub slotCount-le : (crumbs : Bool) → slotCount crumbs ≤ 28
-slotCount-le true = omega arith
-slotCount-le false = omega arith
+  module _ (crumbs : Bool) (w : ℕ) (small : w < 2 ^ bitsOf L crumbs) (full : ones w ≡ L .minis) where
+    -- a key in each slot
+    length-keys : length (joined (tags L) (slotMinis L crumbs w) (tagsOf L crumbs b)) ≡ slotsOf L crumbs
+    length-keys =
+        omega (
+          arith,
+          length-joined-min (tags L) (slotMinis L crumbs w) (tagsOf L crumbs b),
+          length-tagsIn L (slotsOf L crumbs) b,
+          length-slotMinis L crumbs w small full,
+          bits-room L crumbs,
+        )
 
-pub length-membersOf : (crumbs : Bool) (xs b : List ℕ) → length b ≡ 64 → length xs ≤ slotCount crumbs
-    → length (membersOf crumbs xs (slotCrumbs crumbs b)) ≡ length xs
-length-membersOf true xs b long h = length-joined 16 xs (slotCrumbs true b) (omega (arith, length-slotCrumbs b long))
-length-membersOf false xs b long h = refl
+    pub length-slotMembers : length (slotMembers L crumbs w b) ≡ slotsOf L crumbs
+    unfolding slotMembers
+    length-slotMembers = length-withCrumbs crumbs (joined (tags L) (slotMinis L crumbs w) (tagsOf L crumbs b)) (omega (arith, length-keys)) ∙ length-keys
 
-membersOf-at : (crumbs : Bool) (xs b : List ℕ) (s : ℕ) → length b ≡ 64 → length xs ≤ slotCount crumbs → s < length xs
-    → getD (membersOf crumbs xs (slotCrumbs crumbs b)) s 0 ≡ memberOf crumbs (getD xs s 0) (getD (slotCrumbs crumbs b) s 0)
-membersOf-at true xs b s long h l = joined-at 16 xs (slotCrumbs true b) s l (omega (arith, length-slotCrumbs b long))
-membersOf-at false xs b s long h l = refl
-
-module _ (w : ℕ) (small : w < 2 ^ 64) (full : ones w ≡ 36) (crumbs : Bool) (slots : ℕ) (room : slots ≤ slotCount crumbs)
-    (b : List ℕ) (long : length b ≡ 64) where
-  -- a key in each slot
-  length-keys : length (joined 65536 (slotMinis w) (grouped 256 2 slots (drop 8 b))) ≡ slots
-  length-keys =
-      rw (length-joined-min, length-grouped, length-slotMinis w small full) (omega (arith, slotCount-le crumbs))
-
-  pub length-slotMembers : length (slotMembers crumbs slots w b) ≡ slots
-  unfolding slotMembers
-  length-slotMembers =
-      let xs = joined 65536 (slotMinis w) (grouped 256 2 slots (drop 8 b)) in
-      length-membersOf crumbs xs b long (omega (arith, length-keys)) ∙ length-keys
-
-  pub slotMembers-at : (s : ℕ) → s < slots → getD (slotMembers crumbs slots w b) s 0
-      ≡ memberOf crumbs (getD (slotMinis w) s 0 * 65536 + getD (grouped 256 2 28 (drop 8 b)) s 0) (getD (slotCrumbs crumbs b) s 0)
-  unfolding slotMembers
-  slotMembers-at s h =
-      let ds : List ℕ = drop 8 b in
-      let rs = grouped 256 2 slots ds in
-      let n = slotCount-le crumbs in
-      let g : getD rs s 0 ≡ getD (grouped 256 2 28 ds) s 0 = grouped-at 256 2 slots ds s h ∙ sym (grouped-at 256 2 28 ds s (omega arith)) in
-      let l : s < length (slotMinis w) = rw (length-slotMinis w small full) (omega arith) in
-      let k : s < length rs = rw (length-grouped 256 2 slots ds) h in
-      membersOf-at crumbs (joined 65536 (slotMinis w) rs) b s long (omega (arith, length-keys)) (omega (arith, length-keys))
-      ∙ rw (joined-at 65536 (slotMinis w) rs s l k, g)
+    pub slotMembers-at : (s : ℕ) → s < slotsOf L crumbs → getD (slotMembers L crumbs w b) s 0
+        ≡ memberOf crumbs (getD (slotMinis L crumbs w) s 0 * tags L + tagAt L crumbs b s) (getD (slotCrumbs L crumbs b) s 0)
+    unfolding slotMembers
+    slotMembers-at s h =
+        let rs = tagsOf L crumbs b in
+        let l : s < length (slotMinis L crumbs w) = rw (length-slotMinis L crumbs w small full) (omega (arith, bits-room L crumbs)) in
+        let k : s < length rs = rw (length-tagsIn L (slotsOf L crumbs) b) h in
+        withCrumbs-at crumbs (joined (tags L) (slotMinis L crumbs w) rs) s (omega (arith, length-keys)) (omega (arith, length-keys))
+        ∙ rw (joined-at (tags L) (slotMinis L crumbs w) rs s l k, tag-in L crumbs b s h)
 
 -- ---- the pass itself: what it has still to say from slot s on
 
@@ -168,15 +163,54 @@ module _ (end : ℕ) (ks : List ℕ) where
   unfolding fromSlot ascending atLeast
   pass-end last s h = rw (drop-of-length-le ks h) (and-true (leb last end))
 
--- ---- the slots below x, counted on the way: those from slot s on are still to be counted
+-- ---- the slots below x, counted on the way: those from slot s on are the rest, still to be counted
 
 module _ (x s : ℕ) (ks : List ℕ) (h : s < length ks) where
-  pub tally-smaller : getD ks s 0 < x → below x (drop s ks) ≡ suc (below x (drop (suc s) ks))
-  tally-smaller l = rw (drop-cons ks s 0 h) (below-smaller x (getD ks s 0) (drop (suc s) ks) l)
+  pub below-rest-smaller : getD ks s 0 < x → below x (drop s ks) ≡ suc (below x (drop (suc s) ks))
+  below-rest-smaller l = rw (drop-cons ks s 0 h) (below-smaller x (getD ks s 0) (drop (suc s) ks) l)
 
-  pub tally-other : x ≤ getD ks s 0 → below x (drop s ks) ≡ below x (drop (suc s) ks)
-  tally-other l = rw (drop-cons ks s 0 h) (below-other x (getD ks s 0) (drop (suc s) ks) l)
+  pub below-rest-other : x ≤ getD ks s 0 → below x (drop s ks) ≡ below x (drop (suc s) ks)
+  below-rest-other l = rw (drop-cons ks s 0 h) (below-other x (getD ks s 0) (drop (suc s) ks) l)
 
-pub tally-end : (x s : ℕ) (ks : List ℕ) → length ks ≤ s → below x (drop s ks) ≡ 0
+pub below-rest-none : (x s : ℕ) (ks : List ℕ) → length ks ≤ s → below x (drop s ks) ≡ 0
 unfolding below
-tally-end x s ks h = rw (drop-of-length-le ks h)
+below-rest-none x s ks h = rw (drop-of-length-le ks h)
+
+-- ---- layout 1: a word is one u64, and a tag stands at the same bytes, in either kind of bucket
+
+pub bits1 : (crumbs : Bool) → bitsOf layout1 crumbs ≡ 64
+bits1 true = refl
+bits1 false = refl
+
+pub small1 : (crumbs : Bool) (w : ℕ) → w < 2 ^ 64 → w < 2 ^ bitsOf layout1 crumbs
+small1 crumbs w h = rw (bits1 crumbs) h
+
+pub word1 : (crumbs : Bool) (b : List ℕ) → value 256 (take wordBytes1 b) ≡ wordOf layout1 crumbs b
+word1 true b = refl
+word1 false b = refl
+
+pub tag1 : (crumbs : Bool) (b : List ℕ) (i : ℕ) → tagAt layout1 crumbs b i ≡ tagAt layout1 false b i
+tag1 true b i = refl
+tag1 false b i = refl
+
+pub minis1 : (crumbs : Bool) (w : ℕ) → minisOf layout1 crumbs w ≡ minisIn 64 (layout1 .minis) w
+minis1 true w = refl
+minis1 false w = refl
+
+module _ (w : ℕ) (small : w < 2 ^ 64) (full : ones w ≡ layout1 .minis) where
+  pub gaps1 : (crumbs : Bool) → gaps 0 (slotMinis layout1 crumbs w) + (1 + w) ≡ 2 ^ 64
+  gaps1 true = slotMinis-gaps layout1 true w small full
+  gaps1 false = slotMinis-gaps layout1 false w small full
+
+  pub zero1 : (crumbs : Bool) (s z : ℕ) → s < slotsOf layout1 crumbs → z ≡ gaps s (drop s (slotMinis layout1 crumbs w))
+      → ZeroAt 64 (layout1 .minis) (slotMinis layout1 crumbs w) s z
+  zero1 true s z h e = zero-at layout1 true w small full s z (omega arith) e
+  zero1 false s z h e = zero-at layout1 false w small full s z (omega arith) e
+
+pub slots1-le : (crumbs : Bool) → slotsOf layout1 crumbs ≤ layout1 .frontSlots
+slots1-le true = omega arith
+slots1-le false = omega arith
+
+pub slots1-even : (crumbs : Bool) → slotsOf layout1 crumbs % 2 ≡ 0
+slots1-even true = refl
+slots1-even false = refl

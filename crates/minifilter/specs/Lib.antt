@@ -1,4 +1,2 @@
 -- One bucket as the contracts of its reader and its search speak of it.
-pub mod Readings
-pub mod Slots
-pub mod Searches
+pub mod Steps

@@ -2,26 +2,33 @@
 
 use crate::Carried;
 use crate::slots;
+use crumbmap::layout::FRONT_SLOTS;
+use crumbmap::layout::MINIS;
+use crumbmap::layout::TAGS;
 use words::word;
 ghost use mathlib.Core.Path.{_≡_};
 ghost use Prim.Native.Nat.{suc, _+_, _*_, _-_, _<_, _≤_};
+ghost use mathlib.Core.Bool.{false};
 ghost use mathlib.Core.List.{_++_};
-ghost use lib.ListN.{length, drop, getD};
+ghost use lib.ListN.{length, drop};
 ghost use lib.Count.{trailingZeros};
 ghost use lib.Dec.{ltb};
 ghost use Rattle.multiset.specs.Multisets.{below, copies, largest};
-ghost use Rattle.multiset.specs.Digits.{grouped, highs};
-ghost use Rattle.crumbmap.specs.Layouts.{layout1, keys};
+ghost use Rattle.multiset.specs.Digits.{highs};
+ghost use Rattle.crumbmap.specs.Layouts.{layout1, tags, keys};
+ghost use Rattle.buckets.specs.Buckets.{carrying, frontList, backList};
 ghost use Rattle.words.specs.Select.{selectTable};
-ghost use Rattle.buckets.specs.Buckets.{carrying};
-ghost use Rattle.minifilter.specs.Readings.{SoundFront, SoundBack, frontList, backList, firstOf};
-ghost use Rattle.minifilter.specs.Slots.{slotCount};
-ghost use Rattle.minifilter.specs.Searches.{Sound, membersOf, spanOf, lowAt, Scanned, RankOf, wantedAt, chosen};
+ghost use Rattle.minifilter.specs.Steps.Readings.{SoundFront, SoundBack, firstOf};
+ghost use Rattle.minifilter.specs.Steps.Slots.{slotsOf, tagAt};
+ghost use Rattle.minifilter.specs.Steps.Searches.{Sound, membersOf, spanOf, lowAt, Scanned, RankOf, wantedAt, chosen};
+
+// A front bucket's last slot.
+const LAST: usize = FRONT_SLOTS - 1;
 
 // What the bytes hold of a slot.
 fn low_of(b: &[u8], crumbs: bool, slot: usize) -> u32
-    requires { ⌜ (length (now b) ≡ 64) × (slot < slotCount crumbs) ⌝ }
-    ensures { λ r. ⌜ r ≡ lowAt crumbs (now (b .entry)) slot ⌝ }
+    requires { ⌜ (length (now b) ≡ 64) × (slot < slotsOf layout1 crumbs) ⌝ }
+    ensures { λ r. ⌜ r ≡ lowAt layout1 crumbs (now (b .entry)) slot ⌝ }
 {
     let tag = slots::tag_of(b, slot);
     if crumbs {
@@ -32,8 +39,8 @@ fn low_of(b: &[u8], crumbs: bool, slot: usize) -> u32
 
 // The first slot that holds `low` or more, among those of one mini-bucket.
 fn scan(b: &[u8], crumbs: bool, from: usize, past: usize, low: u32) -> usize
-    requires { ⌜ (length (now b) ≡ 64) × (from ≤ past) × (past ≤ slotCount crumbs) ⌝ }
-    ensures { λ r. ⌜ Scanned crumbs (now (b .entry)) from past low r ⌝ }
+    requires { ⌜ (length (now b) ≡ 64) × (from ≤ past) × (past ≤ slotsOf layout1 crumbs) ⌝ }
+    ensures { λ r. ⌜ Scanned layout1 crumbs (now (b .entry)) from past low r ⌝ }
 {
     let mut slot = from;
     while slot < past {
@@ -49,25 +56,25 @@ fn scan(b: &[u8], crumbs: bool, from: usize, past: usize, low: u32) -> usize
 // How many members of a backyard bucket are below one, key × 16 + crumb: those of the mini-buckets before its own, and in its own up to
 // the first slot that holds as much.
 pub fn rank_back(table: &[u8], b: &[u8], member: u32) -> usize
-    requires { ⌜ (now table ≡ selectTable) × SoundBack (now b) × (member < keys layout1 * 16) ⌝ }
-    ensures { λ r. ⌜ r ≡ below member (backList (now (b .entry))) ⌝ }
+    requires { ⌜ (now table ≡ selectTable) × SoundBack layout1 (now b) × (member < keys layout1 * 16) ⌝ }
+    ensures { λ r. ⌜ r ≡ below member (backList layout1 (now (b .entry))) ⌝ }
 {
-    let slots = word::bounds(table, word::word_of(b), member / 1_048_576);
-    scan(b, true, slots.from, slots.past, member % 1_048_576)
+    let slots = word::bounds(table, word::word_of(b), member / slots::BACK_SPAN);
+    scan(b, true, slots.from, slots.past, member % slots::BACK_SPAN)
 }
 
 // The slot past the last of a member's mini-bucket, from the slot where the member's copies begin: the zeros of the word from that place on.
 fn past_of(b: &[u8], crumbs: bool, slot: usize, mini: u32, low: u32) -> usize
-    requires { ⌜ RankOf crumbs (now b) slot mini low ⌝ }
-    ensures { λ r. ⌜ (r ≡ below (suc mini) (highs (spanOf crumbs) (membersOf crumbs (now (b .entry))))) × (slot ≤ r) × (r ≤ slotCount crumbs) ⌝ }
+    requires { ⌜ RankOf layout1 crumbs (now b) slot mini low ⌝ }
+    ensures { λ r. ⌜ (r ≡ below (suc mini) (highs (spanOf layout1 crumbs) (membersOf layout1 crumbs (now (b .entry))))) × (slot ≤ r) × (r ≤ slotsOf layout1 crumbs) ⌝ }
 {
     slot + word::rest(word::word_of(b), mini, slot)
 }
 
 // The copies of a member, which stand from slot `slot` on.
 fn copies_in(b: &[u8], crumbs: bool, slot: usize, mini: u32, low: u32) -> usize
-    requires { ⌜ RankOf crumbs (now b) slot mini low ⌝ }
-    ensures { λ r. ⌜ r ≡ copies (mini * spanOf crumbs + low) (membersOf crumbs (now (b .entry))) ⌝ }
+    requires { ⌜ RankOf layout1 crumbs (now b) slot mini low ⌝ }
+    ensures { λ r. ⌜ r ≡ copies (mini * spanOf layout1 crumbs + low) (membersOf layout1 crumbs (now (b .entry))) ⌝ }
 {
     let past = past_of(b, crumbs, slot, mini, low);
     scan(b, crumbs, slot, past, low + 1) - slot
@@ -75,23 +82,29 @@ fn copies_in(b: &[u8], crumbs: bool, slot: usize, mini: u32, low: u32) -> usize
 
 // The same for a key in a front bucket, and for a member in a backyard bucket.
 pub fn copies_front(b: &[u8], slot: usize, key: u32) -> usize
-    requires { ⌜ SoundFront (now b) × (key < keys layout1) × (slot ≡ below key (frontList (now b))) ⌝ }
-    ensures { λ r. ⌜ r ≡ copies key (frontList (now (b .entry))) ⌝ }
+    requires { ⌜ SoundFront layout1 (now b) × (key < keys layout1) × (slot ≡ below key (frontList layout1 (now b))) ⌝ }
+    ensures { λ r. ⌜ r ≡ copies key (frontList layout1 (now (b .entry))) ⌝ }
 {
-    copies_in(b, false, slot, key / 65_536, key % 65_536)
+    copies_in(b, false, slot, key / TAGS, key % TAGS)
 }
 
 pub fn copies_back(b: &[u8], slot: usize, member: u32) -> usize
-    requires { ⌜ SoundBack (now b) × (member < keys layout1 * 16) × (slot ≡ below member (backList (now b))) ⌝ }
-    ensures { λ r. ⌜ r ≡ copies member (backList (now (b .entry))) ⌝ }
+    requires { ⌜ SoundBack layout1 (now b) × (member < keys layout1 * 16) × (slot ≡ below member (backList layout1 (now b))) ⌝ }
+    ensures { λ r. ⌜ r ≡ copies member (backList layout1 (now (b .entry))) ⌝ }
 {
-    copies_in(b, true, slot, member / 1_048_576, member % 1_048_576)
+    copies_in(
+        b,
+        true,
+        slot,
+        member / slots::BACK_SPAN,
+        member % slots::BACK_SPAN,
+    )
 }
 
 // Whether a copy stands at that slot: it is one of the mini-bucket's, and holds no more.
 fn holds_in(b: &[u8], crumbs: bool, slot: usize, mini: u32, low: u32) -> bool
-    requires { ⌜ RankOf crumbs (now b) slot mini low ⌝ }
-    ensures { λ r. ⌜ r ≡ ltb 0 (copies (mini * spanOf crumbs + low) (membersOf crumbs (now (b .entry)))) ⌝ }
+    requires { ⌜ RankOf layout1 crumbs (now b) slot mini low ⌝ }
+    ensures { λ r. ⌜ r ≡ ltb 0 (copies (mini * spanOf layout1 crumbs + low) (membersOf layout1 crumbs (now (b .entry)))) ⌝ }
 {
     if past_of(b, crumbs, slot, mini, low) == slot {
         return false;
@@ -101,49 +114,49 @@ fn holds_in(b: &[u8], crumbs: bool, slot: usize, mini: u32, low: u32) -> bool
 
 // The same for a key in a front bucket.
 pub fn holds_front(b: &[u8], slot: usize, key: u32) -> bool
-    requires { ⌜ SoundFront (now b) × (key < keys layout1) × (slot ≡ below key (frontList (now b))) ⌝ }
-    ensures { λ r. ⌜ r ≡ ltb 0 (copies key (frontList (now (b .entry)))) ⌝ }
+    requires { ⌜ SoundFront layout1 (now b) × (key < keys layout1) × (slot ≡ below key (frontList layout1 (now b))) ⌝ }
+    ensures { λ r. ⌜ r ≡ ltb 0 (copies key (frontList layout1 (now (b .entry)))) ⌝ }
 {
-    holds_in(b, false, slot, key / 65_536, key % 65_536)
+    holds_in(b, false, slot, key / TAGS, key % TAGS)
 }
 
 // How many members a bucket holds, front or backyard.
 pub fn count_front(b: &[u8]) -> usize
-    requires { ⌜ SoundFront (now b) ⌝ }
-    ensures { λ r. ⌜ r ≡ length (frontList (now (b .entry))) ⌝ }
+    requires { ⌜ SoundFront layout1 (now b) ⌝ }
+    ensures { λ r. ⌜ r ≡ length (frontList layout1 (now (b .entry))) ⌝ }
 {
     word::occupancy(word::word_of(b))
 }
 
 pub fn count_back(b: &[u8]) -> usize
-    requires { ⌜ SoundBack (now b) ⌝ }
-    ensures { λ r. ⌜ r ≡ length (backList (now (b .entry))) ⌝ }
+    requires { ⌜ SoundBack layout1 (now b) ⌝ }
+    ensures { λ r. ⌜ r ≡ length (backList layout1 (now (b .entry))) ⌝ }
 {
     word::occupancy(word::word_of(b))
 }
 
-// The largest key of a front bucket that holds 28: above its zero the word has ones alone, one for each mini-bucket from its own on.
+// The largest key of a front bucket whose slots are all in use: above its zero the word has ones alone, one for each mini-bucket from its own on.
 pub fn largest_front(b: &[u8]) -> u32
-    requires { ⌜ SoundFront (now b) × (length (frontList (now b)) ≡ 28) ⌝ }
-    ensures { λ r. ⌜ r ≡ largest (frontList (now (b .entry))) ⌝ }
+    requires { ⌜ SoundFront layout1 (now b) × (length (frontList layout1 (now b)) ≡ layout1 .frontSlots) ⌝ }
+    ensures { λ r. ⌜ r ≡ largest (frontList layout1 (now (b .entry))) ⌝ }
 {
     let ones = u64::leading_zeros(!word::word_of(b));
-    (36 - ones) * 65_536 + slots::tag_of(b, 27)
+    (MINIS - ones) * TAGS + slots::tag_of(b, LAST)
 }
 
 // The key of the slot whose zero is the lowest of `zeros`.
 fn key_at(b: &[u8], zeros: u64, slot: usize) -> u32
-    requires { ⌜ (length (now b) ≡ 64) × (slot < 28) × (slot ≤ trailingZeros 64 zeros) ⌝ }
-    ensures { λ r. ⌜ r ≡ (trailingZeros 64 zeros - slot) * 65536 + getD (grouped 256 2 28 (drop 8 (now (b .entry)))) slot 0 ⌝ }
+    requires { ⌜ (length (now b) ≡ 64) × (slot < layout1 .frontSlots) × (slot ≤ trailingZeros 64 zeros) ⌝ }
+    ensures { λ r. ⌜ r ≡ (trailingZeros 64 zeros - slot) * tags layout1 + tagAt layout1 false (now (b .entry)) slot ⌝ }
 {
     let mini = u64::trailing_zeros(zeros) - (slot as u32);
-    mini * 65_536 + slots::tag_of(b, slot)
+    mini * TAGS + slots::tag_of(b, slot)
 }
 
 // Whether a slot is among those asked for.
 fn wanted(b: &[u8], crumbs: bool, slot: usize, crumb: u32) -> bool
-    requires { ⌜ (length (now b) ≡ 64) × (slot < slotCount crumbs) ⌝ }
-    ensures { λ r. ⌜ r ≡ wantedAt crumbs crumb (now (b .entry)) slot ⌝ }
+    requires { ⌜ (length (now b) ≡ 64) × (slot < slotsOf layout1 crumbs) ⌝ }
+    ensures { λ r. ⌜ r ≡ wantedAt layout1 crumbs crumb (now (b .entry)) slot ⌝ }
 {
     if crumbs {
         return slots::crumb_of(b, slot) == crumb;
@@ -153,9 +166,9 @@ fn wanted(b: &[u8], crumbs: bool, slot: usize, crumb: u32) -> bool
 
 // The keys asked for, in order, into the start of `out`; how many. The zeros of the word are taken in turn, the lowest first.
 fn list_in(b: &[u8], crumbs: bool, crumb: u32, out: &mut [u32]) -> usize
-    requires { ⌜ Sound crumbs (now b) × (length (now out) ≡ slotCount crumbs) ⌝ }
-    ensures { λ r. ⌜ (r ≡ length (chosen crumbs crumb (membersOf crumbs (now (b .entry)))))
-        × (now (out .exit) ≡ chosen crumbs crumb (membersOf crumbs (now (b .entry))) ++ drop r (now (out .entry))) ⌝ }
+    requires { ⌜ Sound layout1 crumbs (now b) × (length (now out) ≡ slotsOf layout1 crumbs) ⌝ }
+    ensures { λ r. ⌜ (r ≡ length (chosen crumbs crumb (membersOf layout1 crumbs (now (b .entry)))))
+        × (now (out .exit) ≡ chosen crumbs crumb (membersOf layout1 crumbs (now (b .entry))) ++ drop r (now (out .entry))) ⌝ }
 {
     let word = word::word_of(b);
     let members = word::occupancy(word);
@@ -176,25 +189,25 @@ fn list_in(b: &[u8], crumbs: bool, crumb: u32, out: &mut [u32]) -> usize
 
 // All keys of a front bucket, in order, into the start of `out`; how many.
 pub fn list_front(b: &[u8], out: &mut [u32]) -> usize
-    requires { ⌜ SoundFront (now b) × (length (now out) ≡ 28) ⌝ }
-    ensures { λ r. ⌜ (r ≡ length (frontList (now (b .entry)))) × (now (out .exit) ≡ frontList (now (b .entry)) ++ drop r (now (out .entry))) ⌝ }
+    requires { ⌜ SoundFront layout1 (now b) × (length (now out) ≡ layout1 .frontSlots) ⌝ }
+    ensures { λ r. ⌜ (r ≡ length (frontList layout1 (now (b .entry)))) × (now (out .exit) ≡ frontList layout1 (now (b .entry)) ++ drop r (now (out .entry))) ⌝ }
 {
     list_in(b, false, 0, out)
 }
 
 // The keys that carry a crumb in a backyard bucket, in order, into the start of `out`; how many.
 pub fn list_carrying(b: &[u8], crumb: u32, out: &mut [u32]) -> usize
-    requires { ⌜ SoundBack (now b) × (crumb < 16) × (length (now out) ≡ 22) ⌝ }
-    ensures { λ r. ⌜ (r ≡ length (carrying crumb (backList (now (b .entry)))))
-        × (now (out .exit) ≡ carrying crumb (backList (now (b .entry))) ++ drop r (now (out .entry))) ⌝ }
+    requires { ⌜ SoundBack layout1 (now b) × (crumb < 16) × (length (now out) ≡ layout1 .backSlots) ⌝ }
+    ensures { λ r. ⌜ (r ≡ length (carrying crumb (backList layout1 (now (b .entry)))))
+        × (now (out .exit) ≡ carrying crumb (backList layout1 (now (b .entry))) ++ drop r (now (out .entry))) ⌝ }
 {
     list_in(b, true, crumb, out)
 }
 
 // All members of a backyard bucket, in order, into the start of `out`; how many.
 pub fn list_back(b: &[u8], out: &mut [u32]) -> usize
-    requires { ⌜ SoundBack (now b) × (length (now out) ≡ 22) ⌝ }
-    ensures { λ r. ⌜ (r ≡ length (backList (now (b .entry)))) × (now (out .exit) ≡ backList (now (b .entry)) ++ drop r (now (out .entry))) ⌝ }
+    requires { ⌜ SoundBack layout1 (now b) × (length (now out) ≡ layout1 .backSlots) ⌝ }
+    ensures { λ r. ⌜ (r ≡ length (backList layout1 (now (b .entry)))) × (now (out .exit) ≡ backList layout1 (now (b .entry)) ++ drop r (now (out .entry))) ⌝ }
 {
     let word = word::word_of(b);
     let members = word::occupancy(word);
@@ -210,8 +223,8 @@ pub fn list_back(b: &[u8], out: &mut [u32]) -> usize
 
 // The lowest of the keys that carry a crumb, and its slot: the first that holds the crumb.
 pub fn first_carrying(b: &[u8], crumb: u32) -> Carried
-    requires { ⌜ SoundBack (now b) × (crumb < 16) ⌝ }
-    ensures { λ r. ⌜ r ≡ firstOf crumb (backList (now (b .entry))) (carrying crumb (backList (now (b .entry)))) ⌝ }
+    requires { ⌜ SoundBack layout1 (now b) × (crumb < 16) ⌝ }
+    ensures { λ r. ⌜ r ≡ firstOf crumb (backList layout1 (now (b .entry))) (carrying crumb (backList layout1 (now (b .entry)))) ⌝ }
 {
     let word = word::word_of(b);
     let members = word::occupancy(word);
@@ -230,8 +243,8 @@ pub fn first_carrying(b: &[u8], crumb: u32) -> Carried
 
 // How many keys carry a crumb in a backyard bucket.
 pub fn count_carrying(b: &[u8], crumb: u32) -> usize
-    requires { ⌜ SoundBack (now b) × (crumb < 16) ⌝ }
-    ensures { λ r. ⌜ r ≡ length (carrying crumb (backList (now (b .entry)))) ⌝ }
+    requires { ⌜ SoundBack layout1 (now b) × (crumb < 16) ⌝ }
+    ensures { λ r. ⌜ r ≡ length (carrying crumb (backList layout1 (now (b .entry)))) ⌝ }
 {
     let members = word::occupancy(word::word_of(b));
     let mut slot: usize = 0;

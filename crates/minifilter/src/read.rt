@@ -4,33 +4,37 @@ use crate::Order;
 use crate::Reading;
 use crate::slots;
 use crumbmap::Backyard;
+use crumbmap::layout::BACK_SLOTS;
+use crumbmap::layout::FRONT_SLOTS;
+use crumbmap::layout::KEYS;
+use crumbmap::layout::MINIS;
+use crumbmap::layout::TAGS;
 use crumbmap::valid;
 use words::word;
 ghost use mathlib.Core.Path.{_≡_};
-ghost use mathlib.Core.Bool.{true};
 ghost use Prim.Native.Nat.{_+_, _*_, _%_, _<_, _≤_};
-ghost use lib.ListN.{length, take, drop, getD};
+ghost use mathlib.Core.Bool.{true};
+ghost use lib.ListN.{length, take, getD};
 ghost use lib.Count.{ones};
-ghost use Rattle.multiset.specs.Digits.{grouped};
-ghost use Rattle.crumbmap.specs.Layouts.{layout1, keys, backyards};
+ghost use Rattle.crumbmap.specs.Layouts.{layout1, tags, keys};
 ghost use Rattle.buckets.specs.Buckets.{frontMembers, backMembers};
-ghost use Rattle.minifilter.specs.Readings.{readingOf};
-ghost use Rattle.minifilter.specs.Slots.{slotCount, slotCrumbs, memberOf, endOf, slotMembers, inOrder, orderOf, slotList, marked};
+ghost use Rattle.minifilter.specs.Steps.Readings.{readingOf, BackAsked};
+ghost use Rattle.minifilter.specs.Steps.Slots.{slotsOf, slotCrumbs, memberOf, endOf, tagAt, slotMembers, inOrder, orderOf, slotList, marked};
 
 // A front bucket.
 pub fn read_front(b: &[u8], key: u32) -> Reading
     requires { ⌜ (length (now b) ≡ 64) × (key < keys layout1) ⌝ }
     ensures { λ r. ⌜ r ≡ readingOf key (frontMembers layout1 (now (b .entry))) ⌝ }
 {
-    read_slots(b, 28, false, key)
+    read_slots(b, FRONT_SLOTS, false, key)
 }
 
 // Backyard bucket `bucket` of an image of size `size`.
 pub fn read_back(b: &[u8], size: usize, bucket: Backyard, member: u32) -> Reading
-    requires { ⌜ (length (now b) ≡ 64) × (size ≤ 65536) × (bucket .0 < backyards size) × (member < keys layout1 * 16) ⌝ }
+    requires { ⌜ BackAsked layout1 (now b) size (bucket .0) member ⌝ }
     ensures { λ r. ⌜ r ≡ readingOf member (backMembers layout1 size (bucket .0) (now (b .entry))) ⌝ }
 {
-    let Reading::Members(members, below) = read_slots(b, 22, true, member) else {
+    let Reading::Members(members, below) = read_slots(b, BACK_SLOTS, true, member) else {
         return Reading::Unsound;
     };
     if b[63] != 0 {
@@ -45,11 +49,11 @@ pub fn read_back(b: &[u8], size: usize, bucket: Backyard, member: u32) -> Readin
 
 // A bucket's word and slots: "its word has exactly 36 ones, members fit the slots and ascend, unused bytes and halves are 0".
 fn read_slots(b: &[u8], slots: usize, crumbs: bool, sought: u32) -> Reading
-    requires { ⌜ (length (now b) ≡ 64) × (21 ≤ slots) × (slots ≤ slotCount crumbs) × (slots % 2 ≡ 0) × (sought < endOf crumbs) ⌝ }
-    ensures { λ r. ⌜ r ≡ readingOf sought (slotList crumbs slots (now (b .entry))) ⌝ }
+    requires { ⌜ (length (now b) ≡ 64) × (slots ≡ slotsOf layout1 crumbs) × (sought < endOf layout1 crumbs) ⌝ }
+    ensures { λ r. ⌜ r ≡ readingOf sought (slotList layout1 crumbs (now (b .entry))) ⌝ }
 {
     let w = word::word_of(b);
-    if u64::count_ones(w) != 36 {
+    if u64::count_ones(w) != MINIS {
         return Reading::Unsound;
     }
     let members = word::occupancy(w);
@@ -65,8 +69,8 @@ fn read_slots(b: &[u8], slots: usize, crumbs: bool, sought: u32) -> Reading
 // All slots, used or not, ascend, none above the end; how many are below the one sought. The zeros of the word are taken in turn,
 // the lowest first, two a turn: one byte of crumbs serves both.
 fn ascends(b: &[u8], w: u64, slots: usize, crumbs: bool, sought: u32) -> Order
-    requires { ⌜ (length (now b) ≡ 64) × (ones w ≡ 36) × (slots ≤ slotCount crumbs) × (slots % 2 ≡ 0) ⌝ }
-    ensures { λ r. ⌜ r ≡ orderOf (inOrder crumbs slots w (now (b .entry))) sought (slotMembers crumbs slots w (now (b .entry))) ⌝ }
+    requires { ⌜ (length (now b) ≡ 64) × (ones w ≡ layout1 .minis) × (slots ≡ slotsOf layout1 crumbs) ⌝ }
+    ensures { λ r. ⌜ r ≡ orderOf (inOrder layout1 crumbs w (now (b .entry))) sought (slotMembers layout1 crumbs w (now (b .entry))) ⌝ }
 {
     let mut zeros = !w;
     let mut last: u32 = 0;
@@ -105,21 +109,21 @@ fn ascends(b: &[u8], w: u64, slots: usize, crumbs: bool, sought: u32) -> Order
 
 // Mini-bucket 36, tag 0, crumb 0: what the slots past the members hold.
 fn end_of(crumbs: bool) -> u32
-    ensures { λ r. ⌜ r ≡ endOf crumbs ⌝ }
+    ensures { λ r. ⌜ r ≡ endOf layout1 crumbs ⌝ }
 {
     if crumbs {
-        return 37_748_736;
+        return slots::BACK_KEYS;
     }
-    2_359_296
+    KEYS
 }
 
 // What a slot over mini-bucket `mini` holds: mini-bucket and tag, in a backyard bucket the crumb too, as one number.
 fn member_at(b: &[u8], mini: u32, slot: usize, crumbs: bool) -> u32
-    requires { ⌜ (length (now b) ≡ 64) × (mini ≤ 36) × (slot < slotCount crumbs) ⌝ }
-    ensures { λ r. ⌜ r ≡ memberOf crumbs (mini * 65536 + getD (grouped 256 2 28 (drop 8 (now (b .entry)))) slot 0)
-        (getD (slotCrumbs crumbs (now (b .entry))) slot 0) ⌝ }
+    requires { ⌜ (length (now b) ≡ 64) × (mini ≤ layout1 .minis) × (slot < slotsOf layout1 crumbs) ⌝ }
+    ensures { λ r. ⌜ r ≡ memberOf crumbs (mini * tags layout1 + tagAt layout1 crumbs (now (b .entry)) slot)
+        (getD (slotCrumbs layout1 crumbs (now (b .entry))) slot 0) ⌝ }
 {
-    let key = mini * 65_536 + slots::tag_of(b, slot);
+    let key = mini * TAGS + slots::tag_of(b, slot);
     if crumbs {
         return key * 16 + slots::crumb_of(b, slot);
     }
@@ -128,8 +132,8 @@ fn member_at(b: &[u8], mini: u32, slot: usize, crumbs: bool) -> u32
 
 // "Each crumb is valid": those of the first `members` slots, by their bits in `marks`.
 fn crumbs_marked(b: &[u8], members: usize, marks: u32) -> bool
-    requires { ⌜ (length (now b) ≡ 64) × (members ≤ 22) ⌝ }
-    ensures { λ r. ⌜ r ≡ marked marks (take members (slotCrumbs true (now (b .entry)))) ⌝ }
+    requires { ⌜ (length (now b) ≡ 64) × (members ≤ layout1 .backSlots) ⌝ }
+    ensures { λ r. ⌜ r ≡ marked marks (take members (slotCrumbs layout1 true (now (b .entry)))) ⌝ }
 {
     if marks == 65_535 {
         return true;

@@ -11,10 +11,11 @@ use lib.ListN.{length, getD}
 use lib.Pow.{field, mod-mod-pow}
 use lib.Count.{ones, onesIn, trailingZeros, ones-step, ones-le}
 use Rattle.multiset.specs.Multisets.{below}
+use Rattle.buckets.specs.Words.{minisIn}
 use Rattle.words.specs.Select.{above, selectIn, listed, selectByte, selectTable}
-use Rattle.buckets.specs.Words.{minisOf}
-use Rattle.multiset.proofs.MultisetLaws.{below-le-length}
-use Rattle.buckets.proofs.WordLaws.{Coded, done, member, end, coded-run, shr-suc, below-run, below-cons-lt, slot-up, slot-first, past-end, coded-minisOf}
+use Rattle.multiset.proofs.RankLaws.{below-smaller, below-le-length}
+use Rattle.buckets.proofs.WordLaws.{Coded, done, member, end, coded-run, below-run, coded-minisIn, minisIn-run}
+use Rattle.buckets.proofs.BitLaws.{shr-suc, slot-up, slot-first, past-end}
 
 -- ---- a rank among the k lowest bits, and one above them
 
@@ -119,7 +120,7 @@ select-coded zero x r (end c) h e f = absurd (omega arith)
 select-coded (suc bits) x r (member {m = m} {ms = ms} {w = w} c) h e f =
     let a : 2 * w % 2 ≡ 0 = omega arith in
     let b : 2 * w / 2 ≡ w = omega arith in
-    rw (a, b, below-cons-lt (suc x) m ms (omega arith)) (omega (arith, select-coded bits x r c h e (omega arith)))
+    rw (a, b, below-smaller (suc x) m ms (omega arith)) (omega (arith, select-coded bits x r c h e (omega arith)))
 select-coded (suc bits) x zero (end {n = n} {m = m} {ms = ms} {w = w} c) h e f =
     let a : (1 + 2 * w) % 2 ≡ 1 = omega arith in
     rw a (omega (arith, below-run (suc x) (suc m) (suc m + n) ms (omega arith) (coded-run c)))
@@ -138,12 +139,12 @@ trailing-coded (suc bits) x p zero (member {n = n} {m = m} {ms = ms} {w = w} c) 
     let z = below-run x m (m + suc n) ms (omega arith) (coded-run c) in
     let a : 2 * w / 1 % 2 ≡ 0 = omega arith in
     let b : 2 * w / 1 / 2 ≡ w / 1 = omega arith in
-    let s = below-cons-lt (suc x) m ms (omega arith) in
+    let s = below-smaller (suc x) m ms (omega arith) in
     rw (a, b) (omega (arith, trailing-coded bits x p 0 c g h e (omega arith) (omega arith) (omega arith)))
 trailing-coded bits x zero (suc pos) (member {m = m} {ms = ms} c) g h e l u f = absurd (omega (arith, slot-first m x ms g l))
 trailing-coded bits x (suc p) (suc pos) (member {n = n} {m = m} {ms = ms} {w = w} c) g h e l u f =
     let b : 2 * w / 2 ≡ w = omega arith in
-    let s = below-cons-lt (suc x) m ms (omega arith) in
+    let s = below-smaller (suc x) m ms (omega arith) in
     let t = slot-up m x p (m + suc n) ms (coded-run c) g l in
     rw (shr-suc pos (2 * w), b) (omega (arith, trailing-coded bits x p pos c g h (omega arith) t (omega arith) (omega arith)))
 trailing-coded zero x p zero (end c) g h e l u f = absurd (omega arith)
@@ -160,25 +161,25 @@ pub select-ends : {n : ℕ} {ms : List ℕ} {w : ℕ} (bits m : ℕ) → Coded n
     → selectIn bits w m ≡ m + below (suc m) ms
 select-ends bits m c h f = select-coded bits m m c h (omega arith) f
 
--- ---- the slots of mini-bucket m at layout 1
+-- ---- the slots of mini-bucket m
 
-module _ (w m : ℕ) (l : w < 2 ^ 64) (h : ones w ≡ 36) (k : m < 36) where
-  pub first-minisOf : m ≡ 0 → 0 ≡ m + below m (minisOf w)
-  first-minisOf z = omega (arith, below-run m 0 (0 + 36) (minisOf w) (omega arith) (coded-run (coded-minisOf w l h .0)))
+module _ (bits minis w m : ℕ) (l : w < 2 ^ bits) (h : ones w ≡ minis) (k : m < minis) where
+  pub first-minisIn : m ≡ 0 → 0 ≡ m + below m (minisIn bits minis w)
+  first-minisIn z = omega (arith, below-run m 0 minis (minisIn bits minis w) (omega arith) (minisIn-run bits minis w l h))
 
-  pub start-minisOf : 0 < m → selectIn 64 w (m - 1) + 1 ≡ m + below m (minisOf w)
-  start-minisOf p =
-      let c = coded-minisOf w l h in
+  pub start-minisIn : 0 < m → selectIn bits w (m - 1) + 1 ≡ m + below m (minisIn bits minis w)
+  start-minisIn p =
+      let c = coded-minisIn bits minis w l h in
       let e : suc (m - 1) ≡ m = omega arith in
-      omega (arith, rw e at (select-ends 64 (m - 1) (c .0) (omega arith) (c .1)))
+      omega (arith, rw e at (select-ends bits (m - 1) (c .0) (omega arith) (c .1)))
 
-  -- a slot's place is one of the 64 bits
-  pub place-minisOf : (slot : ℕ) → slot ≤ below (suc m) (minisOf w) → m + slot < 64
-  place-minisOf slot u = let c = coded-minisOf w l h in omega (arith, below-le-length (suc m) (minisOf w))
+  -- a slot's place is one of the bits
+  pub place-minisIn : (slot : ℕ) → slot ≤ below (suc m) (minisIn bits minis w) → m + slot < bits
+  place-minisIn slot u = let c = coded-minisIn bits minis w l h in omega (arith, below-le-length (suc m) (minisIn bits minis w))
 
   -- the zeros from a slot's place are those of the mini-bucket's slots from there on
-  pub rest-minisOf : (slot : ℕ) → below m (minisOf w) ≤ slot → slot ≤ below (suc m) (minisOf w)
-      → slot + trailingZeros 64 (w / 2 ^ (m + slot)) ≡ below (suc m) (minisOf w)
-  rest-minisOf slot g u =
-      let c = coded-minisOf w l h in
-      trailing-coded 64 m slot (m + slot) (c .0) (omega arith) (omega arith) (omega arith) g u (c .1)
+  pub rest-minisIn : (slot : ℕ) → below m (minisIn bits minis w) ≤ slot → slot ≤ below (suc m) (minisIn bits minis w)
+      → slot + trailingZeros bits (w / 2 ^ (m + slot)) ≡ below (suc m) (minisIn bits minis w)
+  rest-minisIn slot g u =
+      let c = coded-minisIn bits minis w l h in
+      trailing-coded bits m slot (m + slot) (c .0) (omega arith) (omega arith) (omega arith) g u (c .1)

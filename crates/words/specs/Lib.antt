@@ -1,2 +1,3 @@
 -- Select: what the code's contracts cite.
 pub mod Select
+pub mod Steps

@@ -1,10 +1,7 @@
 -- Select: the place of the one bit of a rank. "A table gives the place of the one bit of each rank 0 to 7 in every byte value, 8 where none:
 -- 2,048 entries".
-use mathlib.Core.Path.{_≡_}
-use mathlib.Core.Logic.{_⊎_}
-use Prim.Native.Nat.{ℕ, zero, suc, _+_, _*_, _/_, _%_, _^_, _≤_, _<_}
+use Prim.Native.Nat.{ℕ, zero, suc, _/_, _%_}
 use mathlib.Core.List.{List, [], _∷_}
-use lib.Count.{onesIn}
 
 -- one place further on, in a word whose lowest bit is b: rank 0 stands here where b is one
 abbrev pub above : ℕ → ℕ → (ℕ → ℕ) → ℕ
@@ -29,16 +26,3 @@ selectByte w r = selectIn 8 w r
 -- the table: the entries of byte value 0, then those of 1, .., each by rank
 unfoldable pub selectTable : List ℕ
 selectTable = listed (λ (i : ℕ). selectByte (i / 8) (i % 8)) 0 2048
-
--- f of each of the n lowest bytes of w, in that byte
-abbrev pub bytewise : (ℕ → ℕ) → ℕ → ℕ → ℕ
-bytewise f zero w = 0
-bytewise f (suc n) w = f (w % 256) + 256 * bytewise f n (w / 256)
-
--- byte j of s is the number of ones of w below its byte j
-abbrev pub Sums : ℕ → ℕ → Type 0
-Sums w s = (j : ℕ) → j < 8 → s / 2 ^ (8 * j) % 256 ≡ onesIn (8 * j) w
-
--- a step of `width` bits is taken where the rank is at least `sum`
-abbrev pub Stepped : ℕ → ℕ → ℕ → ℕ → ℕ → Type 0
-Stepped sum rank place width r = ((sum ≤ rank) × (r ≡ place + width)) ⊎ ((rank < sum) × (r ≡ place))

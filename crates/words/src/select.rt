@@ -3,7 +3,8 @@
 ghost use mathlib.Core.Path.{_≡_};
 ghost use Prim.Native.Nat.{_+_, _*_, _/_, _%_, _^_, _<_};
 ghost use lib.Count.{ones};
-ghost use Rattle.words.specs.Select.{selectIn, selectByte, selectTable, bytewise, Sums, Stepped};
+ghost use Rattle.words.specs.Select.{selectIn, selectByte, selectTable};
+ghost use Rattle.words.specs.Steps.Counts.{bytewise, Sums, Stepped};
 
 // "The place of the one bit of each rank 0 to 7 in every byte value, 8 where none: 2,048 entries": that of a byte value and a rank
 // stands at 8 × byte value + rank.
@@ -91,7 +92,7 @@ pub fn at_rank(table: &[u8], byte: u8, rank: u32) -> u32
 }
 
 // The ones of each byte, in that byte: bits are added up in pairs, then in fours, then in bytes.
-fn tally(word: u64) -> u64
+fn byte_ones(word: u64) -> u64
     ensures { λ r. ⌜ r ≡ bytewise ones 8 word ⌝ }
 {
     let pairs = (word & 0x5555555555555555) + ((word & 0xaaaaaaaaaaaaaaaa) >> 1);
@@ -103,7 +104,7 @@ fn tally(word: u64) -> u64
 fn sums(word: u64) -> u64
     ensures { λ r. ⌜ Sums word r ⌝ }
 {
-    let each = tally(word);
+    let each = byte_ones(word);
     let twos = each + (each << 8);
     let fours = twos + (twos << 16);
     let eights = fours + (fours << 32);

@@ -2,6 +2,7 @@
 
 use crate::Bounds;
 use crate::select;
+use crumbmap::layout::MINIS;
 ghost use mathlib.Core.Path.{_≡_};
 ghost use Prim.Native.Nat.{suc, _+_, _^_, _<_, _≤_};
 ghost use mathlib.Core.List.{_++_};
@@ -9,13 +10,21 @@ ghost use lib.ListN.{length, take, drop};
 ghost use lib.Count.{ones};
 ghost use Rattle.multiset.specs.Multisets.{below};
 ghost use Rattle.multiset.specs.Digits.{digits, value};
+ghost use Rattle.crumbmap.specs.Layouts.{layout1};
+ghost use Rattle.buckets.specs.Words.{openedAt, closedAt, minisIn};
 ghost use Rattle.words.specs.Select.{selectTable};
-ghost use Rattle.buckets.specs.Words.{openedAt, closedAt, minisOf};
+ghost use Rattle.words.specs.Steps.Wide.{wordBytes1, SlotOf1};
+
+// The bits of a word that are no mini-bucket's end.
+const ZEROS: u32 = 64 - MINIS;
+
+// The word of an empty bucket, 2^36 − 1.
+pub const EMPTY: u64 = (1 << MINIS) - 1;
 
 // "Bytes 0 to 7: a little-endian word."
 pub fn word_of(b: &[u8]) -> u64
     requires { ⌜ length (now b) ≡ 64 ⌝ }
-    ensures { λ r. ⌜ r ≡ value 256 (take 8 (now (b .entry))) ⌝ }
+    ensures { λ r. ⌜ r ≡ value 256 (take wordBytes1 (now (b .entry))) ⌝ }
 {
     (b[0] as u64)
         + 256 * (b[1] as u64)
@@ -29,7 +38,7 @@ pub fn word_of(b: &[u8]) -> u64
 
 pub fn put_word(b: &mut [u8], word: u64)
     requires { ⌜ length (now b) ≡ 64 ⌝ }
-    ensures { λ _. ⌜ now (b .exit) ≡ digits 256 8 word ++ drop 8 (now (b .entry)) ⌝ }
+    ensures { λ _. ⌜ now (b .exit) ≡ digits 256 wordBytes1 word ++ drop wordBytes1 (now (b .entry)) ⌝ }
 {
     let w1 = word / 256;
     let w2 = w1 / 256;
@@ -50,16 +59,16 @@ pub fn put_word(b: &mut [u8], word: u64)
 
 // "The members in a sound bucket are 28 minus the word's leading zeros."
 pub fn occupancy(word: u64) -> usize
-    requires { ⌜ ones word ≡ 36 ⌝ }
-    ensures { λ r. ⌜ (r ≡ length (minisOf word)) × (r ≤ 28) ⌝ }
+    requires { ⌜ ones word ≡ layout1 .minis ⌝ }
+    ensures { λ r. ⌜ (r ≡ length (minisIn 64 (layout1 .minis) word)) × (r ≤ layout1 .frontSlots) ⌝ }
 {
-    (28 - u64::leading_zeros(word)) as usize
+    (ZEROS - u64::leading_zeros(word)) as usize
 }
 
 // The place of mini-bucket `mini`'s first bit: behind the end of the one before it.
 fn first_place(table: &[u8], word: u64, mini: u32) -> u32
-    requires { ⌜ (now table ≡ selectTable) × (ones word ≡ 36) × (mini < 36) ⌝ }
-    ensures { λ r. ⌜ r ≡ mini + below mini (minisOf word) ⌝ }
+    requires { ⌜ (now table ≡ selectTable) × (ones word ≡ layout1 .minis) × (mini < layout1 .minis) ⌝ }
+    ensures { λ r. ⌜ r ≡ mini + below mini (minisIn 64 (layout1 .minis) word) ⌝ }
 {
     if mini == 0 {
         return 0;
@@ -69,8 +78,8 @@ fn first_place(table: &[u8], word: u64, mini: u32) -> u32
 
 // The slots of mini-bucket `mini`: as many as the zeros from its first bit.
 pub fn bounds(table: &[u8], word: u64, mini: u32) -> Bounds
-    requires { ⌜ (now table ≡ selectTable) × (ones word ≡ 36) × (mini < 36) ⌝ }
-    ensures { λ r. ⌜ (r .from ≡ below mini (minisOf word)) × (r .past ≡ below (suc mini) (minisOf word)) ⌝ }
+    requires { ⌜ (now table ≡ selectTable) × (ones word ≡ layout1 .minis) × (mini < layout1 .minis) ⌝ }
+    ensures { λ r. ⌜ (r .from ≡ below mini (minisIn 64 (layout1 .minis) word)) × (r .past ≡ below (suc mini) (minisIn 64 (layout1 .minis) word)) ⌝ }
 {
     let place = first_place(table, word, mini);
     let from = place - mini;
@@ -83,8 +92,8 @@ pub fn bounds(table: &[u8], word: u64, mini: u32) -> Bounds
 
 // How many slots mini-bucket `mini` has from `slot` on, which is one of its own or the one past them.
 pub fn rest(word: u64, mini: u32, slot: usize) -> usize
-    requires { ⌜ (ones word ≡ 36) × (mini < 36) × (below mini (minisOf word) ≤ slot) × (slot ≤ below (suc mini) (minisOf word)) ⌝ }
-    ensures { λ r. ⌜ slot + r ≡ below (suc mini) (minisOf word) ⌝ }
+    requires { ⌜ SlotOf1 word mini slot ⌝ }
+    ensures { λ r. ⌜ slot + r ≡ below (suc mini) (minisIn 64 (layout1 .minis) word) ⌝ }
 {
     u64::trailing_zeros(word >> (mini + (slot as u32))) as usize
 }

@@ -1,23 +1,14 @@
 -- `edit::insert_crumb` meets its contract: an even slot is a byte's lower half; at an odd one the byte's higher half moves on.
-use borrow.Author.Needs.{needs}
 use mathlib.Core.Path.{_≡_, sym, ap, _∙_}
 use Prim.Native.Nat.{ℕ, _+_, _*_, _/_}
 use native.Mathlib.Omega.{arith}
 use lib.ListN.{length-set}
-use Rattle.edits.specs.Edits.{crumbInserted}
+use borrow.Author.Needs.{needs}
+use Rattle.edits.specs.Steps.Edits.{crumbInserted}
 use Rattle.buckets.proofs.ElementLaws.{below-bytes}
-use Rattle.edits.proofs.ShiftLaws.{crumb-in-even, crumb-in-odd}
+use Rattle.edits.proofs.HalfLaws.{crumb-in-odd, crumb-in-even}
 use Rattle.edits.proofs.edit.insert_crumb.Statement.{statement}
 use Rattle.edits.proofs.edit.insert_crumb.Tie as tie
-
-cast-half : tie.Need-cast-half
-cast-half c = search needs
-
-push-half-requires : tie.Need-push-half-requires
-push-half-requires c κs = search needs
-
-same-length : tie.Need-same-length
-same-length c = search needs
 
 returns : tie.Need-returns
 returns c =
@@ -29,21 +20,6 @@ returns c =
     pushed .push-half .ensures
     ∙ sym (crumb-in-even s (below-bytes s (entry .slice-known .given)) (a .slot / 2) (entry .before .pre .0) (a .crumb))
     ∙ ap (λ (k : ℕ). crumbInserted k (a .crumb) s) (sym even)
-
-slice-read-byte : tie.Need-slice-read-byte
-slice-read-byte c = search needs
-
-mul-s : tie.Need-mul-s
-mul-s c = search needs
-
-add-s : tie.Need-add-s
-add-s c = search needs
-
-slice-write-s : tie.Need-slice-write-s
-slice-write-s c = search needs
-
-add-push-half : tie.Need-add-push-half
-add-push-half c = search needs
 
 push-half-requires-2 : tie.Need-push-half-requires-2
 push-half-requires-2 c κs =
@@ -69,15 +45,15 @@ pub insert-crumb-spec : {M : Type 1} → statement M
 insert-crumb-spec =
     tie.close
     (tie.spec
-    cast-half
-    push-half-requires
-    same-length
+    (λ c. search needs)
+    (λ c κs. search needs)
+    (λ c. search needs)
     returns
-    slice-read-byte
-    mul-s
-    add-s
-    slice-write-s
-    add-push-half
+    (λ c. search needs)
+    (λ c. search needs)
+    (λ c. search needs)
+    (λ c. search needs)
+    (λ c. search needs)
     push-half-requires-2
     same-length-2
     returns-2)

@@ -4,7 +4,7 @@ use Prim.Native.Nat.{_+_, _*_, _/_, _%_, _-_, _≤_}
 use mathlib.Core.List.{_++_}
 use native.Mathlib.Omega.{arith}
 use lib.ListN.{length, take, drop, length-set}
-use Rattle.edits.proofs.ShiftLaws.{tag-digits, tag-in-start, tag-in-on, tag-in-end}
+use Rattle.edits.proofs.TagLaws.{tag-in-on, tag-in-start, tag-digits, tag-in-end}
 use Rattle.edits.proofs.edit.insert_tag.Statement.{statement}
 use Rattle.edits.proofs.edit.insert_tag.Tie as tie
 
@@ -16,58 +16,16 @@ Inv-loop s₀ slot tag from i₀ s i =
 abbrev μ-loop : tie.MeasureT-loop
 μ-loop s₀ slot tag from i₀ s i = i
 
-mul-from : tie.Need-mul-from Inv-loop μ-loop
-mul-from c = omega arith
-
-sub-i : tie.Need-sub-i Inv-loop μ-loop
-sub-i c = omega arith
-
 loop-holds : tie.Need-loop-holds Inv-loop μ-loop
 loop-holds c = (omega arith, omega arith, omega arith, refl, tag-in-start (c .args .s .now) (omega arith))
 
-sub-low : tie.Need-sub-low Inv-loop μ-loop
-sub-low c = omega arith
-
-slice-read-low : tie.Need-slice-read-low Inv-loop μ-loop
-slice-read-low c = omega arith
-
-sub-high : tie.Need-sub-high Inv-loop μ-loop
-sub-high c = omega arith
-
-slice-read-high : tie.Need-slice-read-high Inv-loop μ-loop
-slice-read-high c = omega arith
-
-slice-write-s : tie.Need-slice-write-s Inv-loop μ-loop
-slice-write-s c = omega arith
-
-add-s : tie.Need-add-s Inv-loop μ-loop
-add-s c = omega arith
-
 slice-write-s-2 : tie.Need-slice-write-s-2 Inv-loop μ-loop
 slice-write-s-2 c = simp length-set (omega arith)
-
-sub-i-2 : tie.Need-sub-i-2 Inv-loop μ-loop
-sub-i-2 c = omega arith
-
-loop-less : tie.Need-loop-less Inv-loop μ-loop
-loop-less c = omega arith
 
 loop-again : tie.Need-loop-again Inv-loop μ-loop
 loop-again c =
     let l = c .before .before .before .loop in
     (omega arith, omega arith, omega arith, simp length-set (l .inv .3), tag-in-on (l .s) (l .i) (omega arith) (omega arith) ∙ l .inv .4)
-
-cast-s : tie.Need-cast-s Inv-loop μ-loop
-cast-s c = omega arith
-
-slice-write-s-3 : tie.Need-slice-write-s-3 Inv-loop μ-loop
-slice-write-s-3 c = omega arith
-
-cast-s-2 : tie.Need-cast-s-2 Inv-loop μ-loop
-cast-s-2 c = omega arith
-
-add-s-2 : tie.Need-add-s-2 Inv-loop μ-loop
-add-s-2 c = omega arith
 
 slice-write-s-4 : tie.Need-slice-write-s-4 Inv-loop μ-loop
 slice-write-s-4 c = simp length-set (omega arith)
@@ -88,23 +46,23 @@ insert-tag-spec =
     (tie.spec
     Inv-loop
     μ-loop
-    mul-from
-    sub-i
+    (λ c. omega arith)
+    (λ c. omega arith)
     loop-holds
-    sub-low
-    slice-read-low
-    sub-high
-    slice-read-high
-    slice-write-s
-    add-s
+    (λ c. omega arith)
+    (λ c. omega arith)
+    (λ c. omega arith)
+    (λ c. omega arith)
+    (λ c. omega arith)
+    (λ c. omega arith)
     slice-write-s-2
-    sub-i-2
-    loop-less
+    (λ c. omega arith)
+    (λ c. omega arith)
     loop-again
-    cast-s
-    slice-write-s-3
-    cast-s-2
-    add-s-2
+    (λ c. omega arith)
+    (λ c. omega arith)
+    (λ c. omega arith)
+    (λ c. omega arith)
     slice-write-s-4
     same-length
     returns)

@@ -5,8 +5,8 @@ use mathlib.Core.List.{_∷_, _++_}
 use native.Mathlib.Omega.{arith}
 use lib.ListN.{length, take, drop, length-set}
 use Rattle.multiset.specs.Digits.{spread, grouped}
-use Rattle.edits.specs.Edits.{halfPushed}
-use Rattle.edits.proofs.ShiftLaws.{half-in-on, halves-done}
+use Rattle.edits.specs.Steps.Edits.{halfPushed}
+use Rattle.edits.proofs.HalfLaws.{halves-done, half-in-on}
 use Rattle.edits.proofs.edit.push_half.Statement.{statement}
 use Rattle.edits.proofs.edit.push_half.Tie as tie
 
@@ -21,24 +21,6 @@ abbrev μ-loop : tie.MeasureT-loop
 loop-holds : tie.Need-loop-holds Inv-loop μ-loop
 unfolding halfPushed
 loop-holds c = (omega arith, omega arith, refl, refl)
-
-slice-read-byte : tie.Need-slice-read-byte Inv-loop μ-loop
-slice-read-byte c = omega arith
-
-mul-s : tie.Need-mul-s Inv-loop μ-loop
-mul-s c = omega arith
-
-add-s : tie.Need-add-s Inv-loop μ-loop
-add-s c = omega arith
-
-slice-write-s : tie.Need-slice-write-s Inv-loop μ-loop
-slice-write-s c = omega arith
-
-add-i : tie.Need-add-i Inv-loop μ-loop
-add-i c = omega arith
-
-loop-less : tie.Need-loop-less Inv-loop μ-loop
-loop-less c = omega arith
 
 loop-again : tie.Need-loop-again Inv-loop μ-loop
 loop-again c =
@@ -63,12 +45,12 @@ push-half-spec =
     Inv-loop
     μ-loop
     loop-holds
-    slice-read-byte
-    mul-s
-    add-s
-    slice-write-s
-    add-i
-    loop-less
+    (λ c. omega arith)
+    (λ c. omega arith)
+    (λ c. omega arith)
+    (λ c. omega arith)
+    (λ c. omega arith)
+    (λ c. omega arith)
     loop-again
     same-length
     returns)

@@ -1,11 +1,13 @@
 -- `edit::remove_front` meets its contract: the slot is one of those of the key.
-use borrow.Author.Needs.{needs}
 use mathlib.Core.Path.{refl, _∙_}
 use native.Mathlib.Omega.{arith}
 use lib.Dec.{lit≤}
+use borrow.Author.Needs.{needs}
+use Rattle.crumbmap.specs.Layouts.{layout1}
 use Rattle.buckets.proofs.ElementLaws.{below-bytes}
-use Rattle.minifilter.proofs.FindLaws.{front-list}
-use Rattle.edits.proofs.EditLaws.{front-lt, front-removed}
+use Rattle.buckets.proofs.BucketLaws.{fits1}
+use Rattle.minifilter.proofs.HeldLaws.{front-list}
+use Rattle.edits.proofs.FrontEdits.{front-removed, front-lt}
 use Rattle.edits.proofs.edit.remove_front.Statement.{statement}
 use Rattle.edits.proofs.edit.remove_front.Tie as tie
 
@@ -15,11 +17,10 @@ remove-slot-requires c κs =
     let a = s .args in
     let b = a .b .now in
     let bytes = below-bytes b (c .before .slice-known .given) in
-    let room = front-list b bytes (s .pre .0) .room in
-    (s .pre .0 .long, lit≤ tt, refl, omega (arith, s .pre .1), omega (arith, front-lt b bytes (s .pre .0) (a .key) (a .slot) (s .pre .1) (s .pre .2)))
-
-same-length : tie.Need-same-length
-same-length c = search needs
+    let room = front-list layout1 fits1 b bytes (s .pre .0) .room in (
+      record { long = s .pre .0 .long; inside = lit≤ tt; even = refl; room = omega (arith, s .pre .1, room) },
+      omega (arith, front-lt layout1 fits1 b bytes (s .pre .0) (a .key) (a .slot) (s .pre .1) (s .pre .2)),
+    )
 
 returns : tie.Need-returns
 returns c =
@@ -28,7 +29,7 @@ returns c =
     let a = s .args in
     let b = a .b .now in
     put .remove-slot .ensures
-    ∙ front-removed b (below-bytes b (put .before .before .slice-known .given)) (s .pre .0) (a .key) (a .slot) (s .pre .1) (s .pre .2)
+    ∙ front-removed layout1 fits1 b (below-bytes b (put .before .before .slice-known .given)) (s .pre .0) (a .key) (a .slot) (s .pre .1) (s .pre .2)
 
 pub remove-front-spec : {M : Type 1} → statement M
-remove-front-spec = tie.close (tie.spec remove-slot-requires same-length returns)
+remove-front-spec = tie.close (tie.spec remove-slot-requires (λ c. search needs) returns)

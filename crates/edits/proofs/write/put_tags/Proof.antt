@@ -4,7 +4,8 @@ use mathlib.Core.Path.{_≡_, refl}
 use Prim.Native.Nat.{_-_, _≤_}
 use native.Mathlib.Omega.{arith}
 use lib.ListN.{length, length-set}
-use Rattle.edits.proofs.WriteLaws.{TagsTo, tags-none, tags-next, tags-behind, tags-all}
+use Rattle.crumbmap.specs.Layouts.{layout1}
+use Rattle.edits.proofs.WriteLaws.{tags-behind, tags-all, tags-none, tags-next, TagsTo}
 use Rattle.edits.proofs.write.put_tags.Statement.{statement}
 use Rattle.edits.proofs.write.put_tags.Tie as tie
 
@@ -15,46 +16,16 @@ abbrev μ-loop : tie.MeasureT-loop
 μ-loop s₀ keys slot₀ s slot = length keys - slot
 
 abbrev Inv-loop2 : tie.InvT-loop2
-Inv-loop2 s₀ keys slot₀ s slot = (length keys ≤ slot) × (slot ≤ 28) × (length s ≡ length s₀) × TagsTo keys slot s
+Inv-loop2 s₀ keys slot₀ s slot = (length keys ≤ slot) × (slot ≤ layout1 .frontSlots) × (length s ≡ length s₀) × TagsTo keys slot s
 
 abbrev μ-loop2 : tie.MeasureT-loop2
-μ-loop2 s₀ keys slot₀ s slot = 28 - slot
+μ-loop2 s₀ keys slot₀ s slot = layout1 .frontSlots - slot
 
 loop-holds : tie.Need-loop-holds Inv-loop μ-loop Inv-loop2 μ-loop2
 loop-holds c = (omega arith, refl, tags-none (c .args .keys .now) (c .args .s .now))
 
-mul-tag : tie.Need-mul-tag Inv-loop μ-loop Inv-loop2 μ-loop2
-mul-tag c = omega arith
-
-shared-slice-read-tag : tie.Need-shared-slice-read-tag Inv-loop μ-loop Inv-loop2 μ-loop2
-shared-slice-read-tag c = omega arith
-
-cast-s : tie.Need-cast-s Inv-loop μ-loop Inv-loop2 μ-loop2
-cast-s c = omega arith
-
-mul-s : tie.Need-mul-s Inv-loop μ-loop Inv-loop2 μ-loop2
-mul-s c = omega arith
-
-slice-write-s : tie.Need-slice-write-s Inv-loop μ-loop Inv-loop2 μ-loop2
-slice-write-s c = omega arith
-
-cast-s-2 : tie.Need-cast-s-2 Inv-loop μ-loop Inv-loop2 μ-loop2
-cast-s-2 c = omega arith
-
-mul-s-2 : tie.Need-mul-s-2 Inv-loop μ-loop Inv-loop2 μ-loop2
-mul-s-2 c = omega arith
-
-add-s : tie.Need-add-s Inv-loop μ-loop Inv-loop2 μ-loop2
-add-s c = omega arith
-
 slice-write-s-2 : tie.Need-slice-write-s-2 Inv-loop μ-loop Inv-loop2 μ-loop2
 slice-write-s-2 c = simp length-set (omega arith)
-
-add-slot : tie.Need-add-slot Inv-loop μ-loop Inv-loop2 μ-loop2
-add-slot c = omega arith
-
-loop-less : tie.Need-loop-less Inv-loop μ-loop Inv-loop2 μ-loop2
-loop-less c = omega arith
 
 loop-again : tie.Need-loop-again Inv-loop μ-loop Inv-loop2 μ-loop2
 loop-again c =
@@ -66,26 +37,8 @@ loop-again c =
 loop2-holds : tie.Need-loop2-holds Inv-loop μ-loop Inv-loop2 μ-loop2
 loop2-holds c = (omega arith, omega arith, refl, c .before .loop .inv .2)
 
-mul-s-3 : tie.Need-mul-s-3 Inv-loop μ-loop Inv-loop2 μ-loop2
-mul-s-3 c = omega arith
-
-slice-write-s-3 : tie.Need-slice-write-s-3 Inv-loop μ-loop Inv-loop2 μ-loop2
-slice-write-s-3 c = omega arith
-
-mul-s-4 : tie.Need-mul-s-4 Inv-loop μ-loop Inv-loop2 μ-loop2
-mul-s-4 c = omega arith
-
-add-s-2 : tie.Need-add-s-2 Inv-loop μ-loop Inv-loop2 μ-loop2
-add-s-2 c = omega arith
-
 slice-write-s-4 : tie.Need-slice-write-s-4 Inv-loop μ-loop Inv-loop2 μ-loop2
 slice-write-s-4 c = simp length-set (omega arith)
-
-add-slot-2 : tie.Need-add-slot-2 Inv-loop μ-loop Inv-loop2 μ-loop2
-add-slot-2 c = omega arith
-
-loop2-less : tie.Need-loop2-less Inv-loop μ-loop Inv-loop2 μ-loop2
-loop2-less c = omega arith
 
 loop2-again : tie.Need-loop2-again Inv-loop μ-loop Inv-loop2 μ-loop2
 loop2-again c =
@@ -117,26 +70,26 @@ put-tags-spec =
     Inv-loop2
     μ-loop2
     loop-holds
-    mul-tag
-    shared-slice-read-tag
-    cast-s
-    mul-s
-    slice-write-s
-    cast-s-2
-    mul-s-2
-    add-s
+    (λ c. omega arith)
+    (λ c. omega arith)
+    (λ c. omega arith)
+    (λ c. omega arith)
+    (λ c. omega arith)
+    (λ c. omega arith)
+    (λ c. omega arith)
+    (λ c. omega arith)
     slice-write-s-2
-    add-slot
-    loop-less
+    (λ c. omega arith)
+    (λ c. omega arith)
     loop-again
     loop2-holds
-    mul-s-3
-    slice-write-s-3
-    mul-s-4
-    add-s-2
+    (λ c. omega arith)
+    (λ c. omega arith)
+    (λ c. omega arith)
+    (λ c. omega arith)
     slice-write-s-4
-    add-slot-2
-    loop2-less
+    (λ c. omega arith)
+    (λ c. omega arith)
     loop2-again
     same-length
     returns)

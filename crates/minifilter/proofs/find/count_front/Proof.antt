@@ -1,30 +1,29 @@
--- `minifilter::find::count_front` meets its contract: the word has a mini-bucket for each member (`held-count`).
-use borrow.Author.Needs.{needs}
-use mathlib.Core.Path.{_≡_, _∙_}
+-- `minifilter::find::count_front` meets its contract: the word has a mini-bucket for each member (`held-count1`).
+use mathlib.Core.Path.{_∙_}
 use mathlib.Core.Bool.{false}
-use lib.ListN.{length}
-use lib.Count.{ones}
-use Rattle.buckets.specs.Words.{minisOf}
-use Rattle.minifilter.specs.Readings.{frontList}
+use borrow.Author.Needs.{needs}
+use Rattle.crumbmap.specs.Layouts.{layout1}
+use Rattle.buckets.specs.Buckets.{frontList}
 use Rattle.buckets.proofs.ElementLaws.{below-bytes}
-use Rattle.minifilter.proofs.FindLaws.{held-count}
+use Rattle.buckets.proofs.BucketLaws.{fits1}
+use Rattle.minifilter.proofs.HeldLaws.{Held, held-many1, held-count1, held}
 use Rattle.minifilter.proofs.find.count_front.Statement.{statement}
 use Rattle.minifilter.proofs.find.count_front.Tie as tie
 
-counted : (c : tie.After-word-of)
-    → (ones (c .word-of .result) ≡ 36) × (length (minisOf (c .word-of .result)) ≡ length (frontList (c .before .before .args .b .now)))
-counted c =
-    let b = c .before .before .args .b .now in
-    rw (c .word-of .ensures) (held-count false b (below-bytes b (c .before .shared-slice-known .given)) (c .before .before .pre))
-
-word-of-requires : tie.Need-word-of-requires
-word-of-requires c κs = search needs
+-- the bucket that was read
+known : (c : tie.After-word-of) → let b = c .before .before .args .b .now in Held layout1 false b (frontList layout1 b)
+known c = let b = c .before .before .args .b .now in held layout1 fits1 false b (below-bytes b (c .before .shared-slice-known .given)) (c .before .before .pre)
 
 occupancy-requires : tie.Need-occupancy-requires
-occupancy-requires c κs = counted c .0
+occupancy-requires c κs =
+    let b = c .before .before .args .b .now in
+    held-many1 b (frontList layout1 b) (c .word-of .result) (c .word-of .ensures) false (known c)
 
 returns : tie.Need-returns
-returns c = c .occupancy .ensures .0 ∙ counted (c .before) .1
+returns c =
+    let read = c .before in
+    let b = read .before .before .args .b .now in
+    c .occupancy .ensures .0 ∙ held-count1 b (frontList layout1 b) (read .word-of .result) (read .word-of .ensures) false (known read)
 
 pub count-front-spec : {M : Type 1} → statement M
-count-front-spec = tie.close (tie.spec word-of-requires occupancy-requires returns)
+count-front-spec = tie.close (tie.spec (λ c κs. search needs) occupancy-requires returns)

@@ -5,20 +5,20 @@ use native.Mathlib.Omega.{arith}
 use borrow.Author.Needs.{needs}
 use borrow.Author.Tests.{le-ltb}
 use Rattle.multiset.specs.Multisets.{copies}
-use Rattle.minifilter.specs.Searches.{membersOf, spanOf}
+use Rattle.crumbmap.specs.Layouts.{layout1}
+use Rattle.minifilter.specs.Steps.Searches.{membersOf, spanOf}
 use Rattle.buckets.proofs.ElementLaws.{below-bytes}
-use Rattle.minifilter.proofs.FindLaws.{Held, sound-long, held, holds-none, holds-test}
+use Rattle.buckets.proofs.BucketLaws.{fits1}
+use Rattle.minifilter.proofs.HeldLaws.{sound-long, Held, held}
+use Rattle.minifilter.proofs.SearchLaws.{holds-test, holds-none}
 use Rattle.minifilter.proofs.find.holds_in.Statement.{statement}
 use Rattle.minifilter.proofs.find.holds_in.Tie as tie
 
 known : (c : tie.After-shared-slice-known)
-    → let a = c .before .args in Held (a .crumbs) (a .b .now) (membersOf (a .crumbs) (a .b .now))
+    → let a = c .before .args in Held layout1 (a .crumbs) (a .b .now) (membersOf layout1 (a .crumbs) (a .b .now))
 known c =
     let a = c .before .args in
-    held (a .crumbs) (a .b .now) (below-bytes (a .b .now) (c .shared-slice-known .given)) (c .before .pre .sound)
-
-past-of-requires : tie.Need-past-of-requires
-past-of-requires c κs = search needs
+    held layout1 fits1 (a .crumbs) (a .b .now) (below-bytes (a .b .now) (c .shared-slice-known .given)) (c .before .pre .sound)
 
 returns : tie.Need-returns
 returns c =
@@ -26,15 +26,15 @@ returns c =
     let s = k .before in
     let a = s .args in
     let p = c .before .past-of .ensures .0 in
-    let none = holds-none (a .crumbs) (a .b .now) (membersOf (a .crumbs) (a .b .now)) (known k) (a .mini) (a .low) (a .slot) (s .pre .low) (s .pre .rank)
+    let none = holds-none layout1 (a .crumbs) (a .b .now) (membersOf layout1 (a .crumbs) (a .b .now)) (known k) (a .mini) (a .low) (a .slot) (s .pre .low) (s .pre .rank)
     (λ h. absurd (omega (arith, p, c .if1 .taken))) in
-    sym (le-ltb 0 (copies (a .mini * spanOf (a .crumbs) + a .low) (membersOf (a .crumbs) (a .b .now))) (omega (arith, none)))
+    sym (le-ltb 0 (copies (a .mini * spanOf layout1 (a .crumbs) + a .low) (membersOf layout1 (a .crumbs) (a .b .now))) (omega (arith, none)))
 
 low-of-requires : tie.Need-low-of-requires
 low-of-requires c κs =
     let s = c .before .before .before in
     let p = c .before .past-of .ensures in
-    (sound-long (s .args .crumbs) (s .args .b .now) (s .pre .sound), omega (arith, p .1, p .2, c .if1 .left))
+    (sound-long layout1 (s .args .crumbs) (s .args .b .now) (s .pre .sound), omega (arith, p .1, p .2, c .if1 .left))
 
 returns-2 : tie.Need-returns-2
 returns-2 c =
@@ -42,8 +42,8 @@ returns-2 c =
     let s = k .before in
     let a = s .args in
     let p = c .before .before .past-of .ensures in
-    holds-test (a .crumbs) (a .b .now) (membersOf (a .crumbs) (a .b .now)) (known k) (a .mini) (a .low) (a .slot) (s .pre .low) (s .pre .rank)
+    holds-test layout1 (a .crumbs) (a .b .now) (membersOf layout1 (a .crumbs) (a .b .now)) (known k) (a .mini) (a .low) (a .slot) (s .pre .low) (s .pre .rank)
     (omega (arith, p .0, p .1, c .before .if1 .left)) (c .low-of .ensures)
 
 pub holds-in-spec : {M : Type 1} → statement M
-holds-in-spec = tie.close (tie.spec past-of-requires returns low-of-requires returns-2)
+holds-in-spec = tie.close (tie.spec (λ c κs. search needs) returns low-of-requires returns-2)

@@ -1,11 +1,11 @@
 -- `find::low_of` meets its contract: a tag is below 65,536 and a crumb below 16, so that tag × 16 + crumb fits.
 use native.Mathlib.Omega.{arith}
-use Rattle.minifilter.proofs.PassLaws.{slotCount-le}
+use Rattle.minifilter.proofs.PassLaws.{slots1-le}
 use Rattle.minifilter.proofs.find.low_of.Statement.{statement}
 use Rattle.minifilter.proofs.find.low_of.Tie as tie
 
 tag-of-requires : tie.Need-tag-of-requires
-tag-of-requires c κs = (c .before .pre .0, omega (arith, slotCount-le (c .before .args .crumbs)))
+tag-of-requires c κs = (c .before .pre .0, omega (arith, slots1-le (c .before .args .crumbs)))
 
 mul-result : tie.Need-mul-result
 mul-result c = omega (arith, c .before .tag-of .ensures .1)

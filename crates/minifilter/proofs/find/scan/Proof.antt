@@ -1,13 +1,14 @@
 -- `find::scan` meets its contract. The loop's invariant: every slot passed holds less than `low`. The measure is what is left of the slots.
 use Prim.Native.Nat.{ℕ, _≤_, _<_, _-_}
 use native.Mathlib.Omega.{arith}
-use Rattle.minifilter.specs.Searches.{lowAt}
-use Rattle.minifilter.proofs.FindLaws.{smaller-on}
+use Rattle.crumbmap.specs.Layouts.{layout1}
+use Rattle.minifilter.specs.Steps.Searches.{lowAt}
+use Rattle.minifilter.proofs.SearchLaws.{smaller-on}
 use Rattle.minifilter.proofs.find.scan.Statement.{statement}
 use Rattle.minifilter.proofs.find.scan.Tie as tie
 
 abbrev Inv-loop : tie.InvT-loop
-Inv-loop b crumbs from past low slot₀ slot = (from ≤ slot) × (slot ≤ past) × ((i : ℕ) → from ≤ i → i < slot → lowAt crumbs b i < low)
+Inv-loop b crumbs from past low slot₀ slot = (from ≤ slot) × (slot ≤ past) × ((i : ℕ) → from ≤ i → i < slot → lowAt layout1 crumbs b i < low)
 
 abbrev μ-loop : tie.MeasureT-loop
 μ-loop b crumbs from past low slot₀ slot = past - slot
@@ -26,17 +27,11 @@ returns c = record {
   here = λ l. omega arith;
 }
 
-add-slot : tie.Need-add-slot Inv-loop μ-loop
-add-slot c = omega arith
-
-loop-less : tie.Need-loop-less Inv-loop μ-loop
-loop-less c = omega arith
-
 loop-again : tie.Need-loop-again Inv-loop μ-loop
 loop-again c =
     let a = c .before .before .before .before .before .args in
     let l = c .before .before .before .loop in
-    (omega arith, omega arith, smaller-on (lowAt (a .crumbs) (a .b .now)) (a .from) (l .slot) (a .low) (l .inv .2) (omega arith))
+    (omega arith, omega arith, smaller-on (lowAt layout1 (a .crumbs) (a .b .now)) (a .from) (l .slot) (a .low) (l .inv .2) (omega arith))
 
 returns-2 : tie.Need-returns-2 Inv-loop μ-loop
 returns-2 c = record {
@@ -55,7 +50,7 @@ scan-spec =
     loop-holds
     low-of-requires
     returns
-    add-slot
-    loop-less
+    (λ c. omega arith)
+    (λ c. omega arith)
     loop-again
     returns-2)

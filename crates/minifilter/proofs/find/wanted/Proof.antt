@@ -9,8 +9,5 @@ crumb-of-requires c κs = (c .before .before .pre .0, rw (c .if1 .taken) at (c .
 returns : tie.Need-returns
 returns c = rw (c .before .if1 .taken, c .crumb-of .ensures .0)
 
-returns-2 : tie.Need-returns-2
-returns-2 c = search needs
-
 pub wanted-spec : {M : Type 1} → statement M
-wanted-spec = tie.close (tie.spec crumb-of-requires returns returns-2)
+wanted-spec = tie.close (tie.spec crumb-of-requires returns (λ c. search needs))

@@ -1,27 +1,15 @@
--- `minifilter::slots::tag_of` meets its contract: its two bytes are the tag of the slot, by `tag-at`.
-use Prim.Native.Nat.{_+_, _*_}
+-- `minifilter::slots::tag_of` meets its contract: its two bytes are the tag of the slot, by `two-bytes`.
+use mathlib.Core.Path.{_∙_, ap, _≡_}
+use Prim.Native.Nat.{_+_, _*_, ℕ}
 use native.Mathlib.Omega.{arith}
-use Rattle.buckets.proofs.ElementLaws.{tag-at}
+use lib.ListN.{take, drop}
+use Rattle.multiset.specs.Digits.{value}
+use Rattle.buckets.proofs.ElementLaws.{two-bytes}
 use Rattle.minifilter.proofs.slots.tag_of.Statement.{statement}
 use Rattle.minifilter.proofs.slots.tag_of.Tie as tie
 
-mul-at : tie.Need-mul-at
-mul-at c = omega arith
-
-add-at : tie.Need-add-at
-add-at c = omega arith
-
-shared-slice-read-result : tie.Need-shared-slice-read-result
-shared-slice-read-result c = omega arith
-
 cast-result : tie.Need-cast-result
 cast-result c = omega (arith, c .shared-slice-known .given (8 + 2 * c .before .args .slot))
-
-add-result : tie.Need-add-result
-add-result c = omega arith
-
-shared-slice-read-result-2 : tie.Need-shared-slice-read-result-2
-shared-slice-read-result-2 c = omega arith
 
 cast-result-2 : tie.Need-cast-result-2
 cast-result-2 c = omega (arith, c .shared-slice-known2 .given (8 + 2 * c .before .before .args .slot + 1))
@@ -37,8 +25,9 @@ add-result-2 c =
 returns : tie.Need-returns
 returns c =
     let a = c .before .before .args in
-    let at = 8 + 2 * a .slot in (
-      tag-at (a .b .now) (c .before .before .pre .0) (a .slot) (c .before .before .pre .1),
+    let at = 8 + 2 * a .slot in
+    let same : at ≡ 8 + a .slot * 2 = omega arith in (
+      two-bytes at (a .b .now) (omega arith) ∙ ap (λ (n : ℕ). value 256 (take 2 (drop n (a .b .now)))) same,
       omega (arith, c .shared-slice-known2 .given at, c .shared-slice-known2 .given (at + 1)),
     )
 
@@ -46,12 +35,12 @@ pub tag-of-spec : {M : Type 1} → statement M
 tag-of-spec =
     tie.close
     (tie.spec
-    mul-at
-    add-at
-    shared-slice-read-result
+    (λ c. omega arith)
+    (λ c. omega arith)
+    (λ c. omega arith)
     cast-result
-    add-result
-    shared-slice-read-result-2
+    (λ c. omega arith)
+    (λ c. omega arith)
     cast-result-2
     mul-result
     add-result-2

@@ -11,18 +11,6 @@ use Rattle.stored.proofs.sum.mixed.Tie as tie
 mul-high : tie.Need-mul-high
 mul-high c = omega (arith, xor-lt 64 (c .args .sum) (c .args .byte) (c .fits .sum .fits) (omega arith))
 
-mul-high-2 : tie.Need-mul-high-2
-mul-high-2 c = search needs
-
-mul-low : tie.Need-mul-low
-mul-low c = search needs
-
-wrapping-add-u64-requires : tie.Need-wrapping-add-u64-requires
-wrapping-add-u64-requires c κs = search needs
-
-wrapping-add-u64-requires-2 : tie.Need-wrapping-add-u64-requires-2
-wrapping-add-u64-requires-2 c κs = search needs
-
 returns : tie.Need-returns
 unfolding mix
 returns c = c .wrapping-add-u642 .ensures ∙ rw (c .before .wrapping-add-u64 .ensures) (mix-parts _)
@@ -32,8 +20,8 @@ mixed-spec =
     tie.close
     (tie.spec
     mul-high
-    mul-high-2
-    mul-low
-    wrapping-add-u64-requires
-    wrapping-add-u64-requires-2
+    (λ c. search needs)
+    (λ c. search needs)
+    (λ c κs. search needs)
+    (λ c κs. search needs)
     returns)

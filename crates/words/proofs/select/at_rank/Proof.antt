@@ -3,8 +3,8 @@ use mathlib.Core.Path.{_≡_, ap, _∙_}
 use Prim.Native.Nat.{ℕ, _+_, _*_}
 use mathlib.Core.List.{List}
 use native.Mathlib.Omega.{arith}
-use borrow.Author.Needs.{needs}
 use lib.ListN.{length, getD}
+use borrow.Author.Needs.{needs}
 use Rattle.words.specs.Select.{selectByte}
 use Rattle.words.proofs.SelectLaws.{length-table, listed-entry}
 use Rattle.words.proofs.select.at_rank.Statement.{statement}
@@ -18,12 +18,6 @@ entry c =
     let s = c .before in
     ap (λ (t : List ℕ). getD t (place c) 0) (s .pre .0) ∙ listed-entry (s .args .byte) (s .args .rank) (s .fits .byte .fits) (s .pre .1)
 
-mul-at : tie.Need-mul-at
-mul-at c = search needs
-
-add-at : tie.Need-add-at
-add-at c = search needs
-
 shared-slice-read-result : tie.Need-shared-slice-read-result
 shared-slice-read-result c = let s = c .before in omega (arith, s .fits .byte .fits, s .pre .1, ap length (s .pre .0), length-table)
 
@@ -34,4 +28,4 @@ returns : tie.Need-returns
 returns c = entry c
 
 pub at-rank-spec : {M : Type 1} → statement M
-at-rank-spec = tie.close (tie.spec mul-at add-at shared-slice-read-result cast-result returns)
+at-rank-spec = tie.close (tie.spec (λ c. search needs) (λ c. search needs) shared-slice-read-result cast-result returns)

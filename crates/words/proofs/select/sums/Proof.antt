@@ -1,15 +1,12 @@
 -- `words::select::sums` meets its contract: the ones of the bytes are added up over two, four and eight bytes, and moved up by one.
 use native.Mathlib.Omega.{arith}
 use borrow.Author.Needs.{needs}
-use Rattle.words.proofs.TallyLaws.{Added, added-word, sums-word}
+use Rattle.words.proofs.ByteLaws.{Added, added-word, sums-word}
 use Rattle.words.proofs.select.sums.Statement.{statement}
 use Rattle.words.proofs.select.sums.Tie as tie
 
-added : (c : tie.After-tally) → Added (c .before .args .word) (c .tally .result)
-added c = added-word (c .before .args .word) (c .tally .result) (c .tally .ensures)
-
-tally-requires : tie.Need-tally-requires
-tally-requires c κs = search needs
+added : (c : tie.After-byte-ones) → Added (c .before .args .word) (c .byte-ones .result)
+added c = added-word (c .before .args .word) (c .byte-ones .result) (c .byte-ones .ensures)
 
 add-twos : tie.Need-add-twos
 add-twos c = omega (arith, added c .twos)
@@ -24,4 +21,4 @@ returns : tie.Need-returns
 returns c = sums-word (c .before .args .word) _ (added c .moved)
 
 pub sums-spec : {M : Type 1} → statement M
-sums-spec = tie.close (tie.spec tally-requires add-twos add-fours add-eights returns)
+sums-spec = tie.close (tie.spec (λ c κs. search needs) add-twos add-fours add-eights returns)

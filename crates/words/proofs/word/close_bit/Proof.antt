@@ -1,14 +1,12 @@
 -- `words::word::close_bit` meets its contract: the part below the place stays, the part above the bit there moves down by one.
 use mathlib.Core.Path.{sym}
 use native.Mathlib.Omega.{arith}
-use borrow.Author.Needs.{needs}
 use lib.Pow.{pow-pos}
-use Rattle.buckets.proofs.WordLaws.{one-shl, closed-moved, closed-high}
+use borrow.Author.Needs.{needs}
+use Rattle.buckets.proofs.BitLaws.{closed-moved, closed-high}
+use Rattle.words.proofs.WideLaws.{one-shl}
 use Rattle.words.proofs.word.close_bit.Statement.{statement}
 use Rattle.words.proofs.word.close_bit.Tie as tie
-
-shl-unit : tie.Need-shl-unit
-shl-unit c = search needs
 
 rem-result : tie.Need-rem-result
 rem-result c = rw (one-shl (c .args .place) (c .pre)) (pow-pos (c .args .place))
@@ -26,4 +24,4 @@ returns : tie.Need-returns
 returns c = rw (one-shl (c .args .place) (c .pre)) (sym (closed-moved (c .args .place) (c .args .word)))
 
 pub close-bit-spec : {M : Type 1} → statement M
-close-bit-spec = tie.close (tie.spec shl-unit rem-result div-result mul-result add-result returns)
+close-bit-spec = tie.close (tie.spec (λ c. search needs) rem-result div-result mul-result add-result returns)

@@ -1,14 +1,12 @@
 -- `words::word::open_bit` meets its contract: the part below the place stays, the part above moves up by one.
 use mathlib.Core.Path.{sym}
 use native.Mathlib.Omega.{arith}
-use borrow.Author.Needs.{needs}
 use lib.Pow.{pow-pos, split}
-use Rattle.buckets.proofs.WordLaws.{one-shl, opened-moved}
+use borrow.Author.Needs.{needs}
+use Rattle.buckets.proofs.BitLaws.{opened-moved}
+use Rattle.words.proofs.WideLaws.{one-shl}
 use Rattle.words.proofs.word.open_bit.Statement.{statement}
 use Rattle.words.proofs.word.open_bit.Tie as tie
-
-shl-unit : tie.Need-shl-unit
-shl-unit c = search needs
 
 rem-result : tie.Need-rem-result
 rem-result c = rw (one-shl (c .args .place) (omega arith)) (pow-pos (c .args .place))
@@ -29,4 +27,4 @@ returns : tie.Need-returns
 returns c = rw (one-shl (c .args .place) (omega arith)) (sym (opened-moved (c .args .place) (c .args .word)))
 
 pub open-bit-spec : {M : Type 1} → statement M
-open-bit-spec = tie.close (tie.spec shl-unit rem-result div-result mul-result mul-result-2 add-result returns)
+open-bit-spec = tie.close (tie.spec (λ c. search needs) rem-result div-result mul-result mul-result-2 add-result returns)

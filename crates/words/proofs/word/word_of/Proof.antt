@@ -1,18 +1,19 @@
 -- `words::word::word_of` meets its contract: each byte is below 256, so no sum wraps, and the sum is the value of the eight digits.
 use native.Mathlib.Omega.{arith}
 use borrow.Author.Needs.{needs}
-use Rattle.buckets.proofs.WordLaws.{word-sum}
+use Rattle.words.proofs.WideLaws.{word-sum}
 use Rattle.words.proofs.word.word_of.Statement.{statement}
 use Rattle.words.proofs.word.word_of.Tie as tie
 
-shared-slice-read-result : tie.Need-shared-slice-read-result
-shared-slice-read-result c = search needs
+-- the points of the walk: after four bytes and after eight, what it began with
+abbrev start4 : tie.After-shared-slice-known4 → tie.Start
+start4 c = c .before .before .before .before
+
+abbrev start : tie.After-shared-slice-known8 → tie.Start
+start c = start4 (c .before .before .before .before)
 
 cast-result : tie.Need-cast-result
 cast-result c = omega (arith, c .shared-slice-known .given 0)
-
-shared-slice-read-result-2 : tie.Need-shared-slice-read-result-2
-shared-slice-read-result-2 c = search needs
 
 cast-result-2 : tie.Need-cast-result-2
 cast-result-2 c = omega (arith, c .shared-slice-known2 .given 1)
@@ -23,9 +24,6 @@ mul-result c = omega (arith, c .shared-slice-known2 .given 1)
 add-result : tie.Need-add-result
 add-result c = let g = c .shared-slice-known2 .given in omega (arith, g 0, g 1)
 
-shared-slice-read-result-3 : tie.Need-shared-slice-read-result-3
-shared-slice-read-result-3 c = search needs
-
 cast-result-3 : tie.Need-cast-result-3
 cast-result-3 c = omega (arith, c .shared-slice-known3 .given 2)
 
@@ -34,9 +32,6 @@ mul-result-2 c = omega (arith, c .shared-slice-known3 .given 2)
 
 add-result-2 : tie.Need-add-result-2
 add-result-2 c = let g = c .shared-slice-known3 .given in omega (arith, g 0, g 1, g 2)
-
-shared-slice-read-result-4 : tie.Need-shared-slice-read-result-4
-shared-slice-read-result-4 c = search needs
 
 cast-result-4 : tie.Need-cast-result-4
 cast-result-4 c = omega (arith, c .shared-slice-known4 .given 3)
@@ -47,9 +42,6 @@ mul-result-3 c = omega (arith, c .shared-slice-known4 .given 3)
 add-result-3 : tie.Need-add-result-3
 add-result-3 c = let g = c .shared-slice-known4 .given in omega (arith, g 0, g 1, g 2, g 3)
 
-shared-slice-read-result-5 : tie.Need-shared-slice-read-result-5
-shared-slice-read-result-5 c = search needs
-
 cast-result-5 : tie.Need-cast-result-5
 cast-result-5 c = omega (arith, c .shared-slice-known5 .given 4)
 
@@ -58,9 +50,6 @@ mul-result-4 c = omega (arith, c .shared-slice-known5 .given 4)
 
 add-result-4 : tie.Need-add-result-4
 add-result-4 c = let g = c .shared-slice-known5 .given in omega (arith, g 0, g 1, g 2, g 3, g 4)
-
-shared-slice-read-result-6 : tie.Need-shared-slice-read-result-6
-shared-slice-read-result-6 c = search needs
 
 cast-result-6 : tie.Need-cast-result-6
 cast-result-6 c = omega (arith, c .shared-slice-known6 .given 5)
@@ -71,9 +60,6 @@ mul-result-5 c = omega (arith, c .shared-slice-known6 .given 5)
 add-result-5 : tie.Need-add-result-5
 add-result-5 c = let g = c .shared-slice-known6 .given in omega (arith, g 0, g 1, g 2, g 3, g 4, g 5)
 
-shared-slice-read-result-7 : tie.Need-shared-slice-read-result-7
-shared-slice-read-result-7 c = search needs
-
 cast-result-7 : tie.Need-cast-result-7
 cast-result-7 c = omega (arith, c .shared-slice-known7 .given 6)
 
@@ -82,9 +68,6 @@ mul-result-6 c = omega (arith, c .shared-slice-known7 .given 6)
 
 add-result-6 : tie.Need-add-result-6
 add-result-6 c = let g = c .shared-slice-known7 .given in omega (arith, g 0, g 1, g 2, g 3, g 4, g 5, g 6)
-
-shared-slice-read-result-8 : tie.Need-shared-slice-read-result-8
-shared-slice-read-result-8 c = search needs
 
 cast-result-8 : tie.Need-cast-result-8
 cast-result-8 c = omega (arith, c .shared-slice-known8 .given 7)
@@ -96,39 +79,39 @@ add-result-7 : tie.Need-add-result-7
 add-result-7 c = let g = c .shared-slice-known8 .given in omega (arith, g 0, g 1, g 2, g 3, g 4, g 5, g 6, g 7)
 
 returns : tie.Need-returns
-returns c = omega (arith, word-sum (c .before .before .before .before .before .before .before .before .args .b .now))
+returns c = omega (arith, word-sum (start c .args .b .now))
 
 pub word-of-spec : {M : Type 1} → statement M
 word-of-spec =
     tie.close
     (tie.spec
-    shared-slice-read-result
+    (λ c. search needs)
     cast-result
-    shared-slice-read-result-2
+    (λ c. search needs)
     cast-result-2
     mul-result
     add-result
-    shared-slice-read-result-3
+    (λ c. search needs)
     cast-result-3
     mul-result-2
     add-result-2
-    shared-slice-read-result-4
+    (λ c. search needs)
     cast-result-4
     mul-result-3
     add-result-3
-    shared-slice-read-result-5
+    (λ c. search needs)
     cast-result-5
     mul-result-4
     add-result-4
-    shared-slice-read-result-6
+    (λ c. search needs)
     cast-result-6
     mul-result-5
     add-result-5
-    shared-slice-read-result-7
+    (λ c. search needs)
     cast-result-7
     mul-result-6
     add-result-6
-    shared-slice-read-result-8
+    (λ c. search needs)
     cast-result-8
     mul-result-7
     add-result-7

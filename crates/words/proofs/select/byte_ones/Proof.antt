@@ -1,11 +1,11 @@
--- `words::select::tally` meets its contract: three stages, each over all bytes at once.
+-- `words::select::byte_ones` meets its contract: three stages, each over all bytes at once.
 use mathlib.Core.Path.{refl}
 use Prim.Native.Nat.{ℕ, _+_, _/_}
 use native.Mathlib.Omega.{arith}
 use lib.Bits.{bitAnd, and-le-r}
-use Rattle.words.proofs.TallyLaws.{tally-word}
-use Rattle.words.proofs.select.tally.Statement.{statement}
-use Rattle.words.proofs.select.tally.Tie as tie
+use Rattle.words.proofs.ByteLaws.{byte-ones-word}
+use Rattle.words.proofs.select.byte_ones.Statement.{statement}
+use Rattle.words.proofs.select.byte_ones.Tie as tie
 
 -- the sums of pairs and of fours
 abbrev pairs : ℕ → ℕ
@@ -24,7 +24,7 @@ add-result : tie.Need-add-result
 add-result c = let w = fours (c .args .word) in omega (arith, and-le-r w 1085102592571150095, and-le-r w 17361641481138401520)
 
 returns : tie.Need-returns
-returns c = let w = c .args .word in tally-word w (pairs w) (fours w) (omega arith) refl refl
+returns c = let w = c .args .word in byte-ones-word w (pairs w) (fours w) (omega arith) refl refl
 
-pub tally-spec : {M : Type 1} → statement M
-tally-spec = tie.close (tie.spec add-pairs add-fours add-result returns)
+pub byte-ones-spec : {M : Type 1} → statement M
+byte-ones-spec = tie.close (tie.spec add-pairs add-fours add-result returns)

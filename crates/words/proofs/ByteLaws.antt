@@ -1,4 +1,4 @@
--- The ones of a word's bytes, all at once: a stage of the count over all bytes (`tally-stage`, `tally-word`), and the ones below each byte
+-- The ones of a word's bytes, all at once: a stage of the count over all bytes (`byte-ones-stage`, `byte-ones-word`), and the ones below each byte
 -- (`added-word`, `sums-word`). Three steps by these sums lead to the byte of a rank (`near-step`, `select-near`, `select-none`).
 use mathlib.Core.Path.{_≡_, refl, sym, ap, _∙_}
 use mathlib.Core.Logic.{⊎-elim}
@@ -6,12 +6,13 @@ use Prim.Native.Nat.{ℕ, zero, suc, _+_, _-_, _*_, _/_, _%_, _^_, _≤_, _<_}
 use native.Mathlib.Nat.{zero-add, add-zero, suc-add, add-assoc, mul-add, mul-comm, mul-left-comm, pow-suc, mul-div-cancel-left, div-add-mod', div-lt-iff-lt-mul, eq-or-lt-of-le}
 use native.Mathlib.Omega.{arith}
 use lib.ListN.{getD}
-use lib.Dec.{lit<}
 use lib.Pow.{shr-shr, pow-pos}
-use lib.Bits.{bitAnd, and-block, and-mod, and-zero-l, and-zero-r, and-le-r}
 use lib.Count.{ones, onesIn}
-use Rattle.words.specs.Select.{selectIn, listed, bytewise, Sums, Stepped}
-use Rattle.buckets.proofs.WordLaws.{shr-suc}
+use lib.Bits.{bitAnd, and-block, and-mod, and-zero-l, and-zero-r, and-le-r}
+use lib.Dec.{lit<}
+use Rattle.words.specs.Select.{selectIn, listed}
+use Rattle.words.specs.Steps.Counts.{bytewise, Sums, Stepped}
+use Rattle.buckets.proofs.BitLaws.{shr-suc}
 use Rattle.words.proofs.SelectLaws.{select-pass, select-low, select-byte-hit, ones-low, ones-byte, listed-at}
 
 -- ---- byte by byte
@@ -50,10 +51,10 @@ mask-even : (k m x : ℕ) → m % 2 ^ k ≡ 0 → bitAnd x m % 2 ^ k ≡ 0
 mask-even k m x e = and-mod x m k ∙ rw e (and-zero-r (x % 2 ^ k))
 
 -- what two masks pick out, added up
-pub tally-stage : (f : ℕ → ℕ) (low high k n w : ℕ) → ((x : ℕ) → x < 256 → f x < 256) → low < 256 → high < 256 → high % 2 ^ k ≡ 0
+pub byte-ones-stage : (f : ℕ → ℕ) (low high k n w : ℕ) → ((x : ℕ) → x < 256 → f x < 256) → low < 256 → high < 256 → high % 2 ^ k ≡ 0
     → bitAnd (bytewise f n w) (bytewise (λ (x : ℕ). low) n 0) + bitAnd (bytewise f n w) (bytewise (λ (x : ℕ). high) n 0) / 2 ^ k
     ≡ bytewise (λ (x : ℕ). bitAnd (f x) low + bitAnd (f x) high / 2 ^ k) n w
-tally-stage f low high k n w b l h e =
+byte-ones-stage f low high k n w b l h e =
     let d = 2 ^ k in
     let half : ℕ → ℕ = λ x. bitAnd (f x) high / d in
     let whole : (x : ℕ) → x < 256 → bitAnd (f x) high ≡ d * half x = λ x i.
@@ -85,18 +86,18 @@ in-eight x l =
     let table : listed inEight 0 256 ≡ listed ones 0 256 = refl in
     rw (zero-add x) at (sym (listed-at inEight 0 256 x l) ∙ ap (λ t. getD t x 0) table ∙ listed-at ones 0 256 x l)
 
-pub tally-word : (w p q : ℕ) → w < 2 ^ 64 → p ≡ bitAnd w 6148914691236517205 + bitAnd w 12297829382473034410 / 2
+pub byte-ones-word : (w p q : ℕ) → w < 2 ^ 64 → p ≡ bitAnd w 6148914691236517205 + bitAnd w 12297829382473034410 / 2
     → q ≡ bitAnd p 3689348814741910323 + bitAnd p 14757395258967641292 / 4
     → bitAnd q 1085102592571150095 + bitAnd q 17361641481138401520 / 16 ≡ bytewise ones 8 w
-tally-word w p q l e g =
+byte-ones-word w p q l e g =
     let pairs : p ≡ bytewise inPairs 8 w =
     e ∙ ap (λ (v : ℕ). bitAnd v 6148914691236517205 + bitAnd v 12297829382473034410 / 2) (sym (bytewise-id 8 w l))
-    ∙ tally-stage (λ (x : ℕ). x) 85 170 1 8 w (λ x i. i) (lit< tt) (lit< tt) refl in
+    ∙ byte-ones-stage (λ (x : ℕ). x) 85 170 1 8 w (λ x i. i) (lit< tt) (lit< tt) refl in
     let fours : q ≡ bytewise inFours 8 w =
     g ∙ ap (λ (v : ℕ). bitAnd v 3689348814741910323 + bitAnd v 14757395258967641292 / 4) pairs
-    ∙ tally-stage inPairs 51 204 2 8 w (λ x i. omega (arith, and-le-r x 85, and-le-r x 170)) (lit< tt) (lit< tt) refl in
+    ∙ byte-ones-stage inPairs 51 204 2 8 w (λ x i. omega (arith, and-le-r x 85, and-le-r x 170)) (lit< tt) (lit< tt) refl in
     ap (λ (v : ℕ). bitAnd v 1085102592571150095 + bitAnd v 17361641481138401520 / 16) fours
-    ∙ tally-stage inFours 15 240 4 8 w (λ x i. omega (arith, and-le-r (inPairs x) 51, and-le-r (inPairs x) 204)) (lit< tt) (lit< tt) refl
+    ∙ byte-ones-stage inFours 15 240 4 8 w (λ x i. omega (arith, and-le-r (inPairs x) 51, and-le-r (inPairs x) 204)) (lit< tt) (lit< tt) refl
     ∙ bytewise-ext inEight ones 8 w in-eight
 
 -- ---- the ones below each byte

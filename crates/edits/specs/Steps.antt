@@ -1,0 +1,2 @@
+-- Inner steps: one bucket as the contracts of its edits speak of it.
+pub mod Edits
