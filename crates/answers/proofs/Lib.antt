@@ -1,3 +1,3 @@
 -- Laws of answers and of how many members there can be.
 pub mod PairLaws
-pub mod RoomLaws
+pub mod ChangeLaws

@@ -7,7 +7,7 @@ use Rattle.machine.specs.Results.{Result, accepted, refused, andThen, number}
 use Rattle.machine.specs.Machine.{Change}
 use Rattle.answers.specs.Answers.{refusal, changeOf, answerOf}
 use Rattle.answers.specs.declared.Refusal.{Refusal}
-use Rattle.answers.specs.declared.Changed.{Changed}
+use Rattle.answers.specs.declared.ChangeResult.{ChangeResult}
 use Rattle.answers.specs.declared.Refusal.the-variants.{WrongLength, LengthsDiffer, Unsound, Full, Absent, PastEnd, NoRoom, Early}
 use Rattle.answers.specs.Pairs.{saidOf, itself, answerValue}
 use Rattle.answers.specs.declared.pairs.Said.{Said}
@@ -39,14 +39,5 @@ said-mapped v f (accepted a) = refl
 said-mapped v f (refused n i) = refl
 
 -- what `changed` gives of a call that is m on the machine
-pub said-changed : (m : Result Change) (r : Changed) (s : Said) → s ≡ saidOf itself (changeOf r) → changeOf r ≡ answerOf m → s ≡ saidOf answerValue m
+pub said-changed : (m : Result Change) (r : ChangeResult) (s : Said) → s ≡ saidOf itself (changeOf r) → changeOf r ≡ answerOf m → s ≡ saidOf answerValue m
 said-changed m r s e f = e ∙ rw f (said-mapped itself answerValue m)
-
-pub accepted-eq : {A : Type 0} (a b : A) → accepted a ≡ accepted b → a ≡ b
-accepted-eq a b e = cc
-
--- what a chain was accepted on
-pub andThen-accepted : {A C : Type 0} (r : Result A) (k : A → Result C) (c : C) → andThen r k ≡ accepted c
-    → (a : A) × (r ≡ accepted a) × (k a ≡ accepted c)
-andThen-accepted (accepted a) k c e = (a, refl, e)
-andThen-accepted (refused n i) k c e = let z : _≡_ {A = ℕ} 0 1 = cc in absurd (omega arith)

@@ -1,4 +1,4 @@
-// The answers of the calls: each gives document 01's answer, or why it is refused; `doneOf` and its like in specs/Answers.antt give the
+// The answers of the calls: each gives document 01's answer, or why it is refused; `outcomeOf` and its like in specs/Answers.antt give the
 // number and the values of each case.
 
 pub mod pairs;
@@ -16,13 +16,13 @@ pub enum Refusal {
 }
 
 // What a fresh, a check or a merge gives.
-pub enum Done {
+pub enum Outcome {
     Accepted,
     Refused(Refusal),
 }
 
 // What an insert or a delete gives: "0, or 1 + the backyard number".
-pub enum Changed {
+pub enum ChangeResult {
     Accepted(usize),
     Refused(Refusal),
 }
@@ -42,7 +42,7 @@ pub struct Asked {
 }
 
 // What an ask gives.
-pub enum Answer {
+pub enum AskResult {
     Accepted(Asked),
     Refused(Refusal),
 }
@@ -54,13 +54,13 @@ pub struct Counted {
 }
 
 // What a count gives.
-pub enum Tally {
+pub enum CountResult {
     Accepted(Counted),
     Refused(Refusal),
 }
 
 // What a page gives: how many, and "the next bucket".
-pub enum Paged {
+pub enum PageResult {
     Accepted(usize, usize),
     Refused(Refusal),
 }

@@ -1,6 +1,6 @@
 // An answer as two numbers, for callers that take no enum: "the numbers a caller may get", and the value beside it.
 
-use crate::Changed;
+use crate::ChangeResult;
 use crate::Refusal;
 ghost use mathlib.Core.Path.{_≡_};
 ghost use Rattle.answers.specs.Answers.{changeOf};
@@ -53,14 +53,14 @@ pub fn refused(why: Refusal) -> Said
 }
 
 // What an insert or a delete gives: its answer, or its refusal.
-pub fn changed(given: Changed) -> Said
+pub fn changed(given: ChangeResult) -> Said
     ensures { λ s. ⌜ s ≡ saidOf itself (changeOf given) ⌝ }
 {
     match given {
-        Changed::Accepted(answer) => Said {
+        ChangeResult::Accepted(answer) => Said {
             number: 0,
             value: answer as u64,
         },
-        Changed::Refused(why) => refused(why),
+        ChangeResult::Refused(why) => refused(why),
     }
 }

@@ -9,10 +9,12 @@ use lib.Seq.{take-at, take-all, drop-at, drop-append-le, drop-drop}
 use lib.Dec.{T, eqb}
 use borrow.Rule.Slice.PartMut.{putMid}
 use Rattle.multiset.specs.Multisets.{ascending}
+use Rattle.crumbmap.specs.Layouts.{Layout}
 use Rattle.buckets.specs.Buckets.{carrying}
-use Rattle.image.specs.ImageReads.{inBack, BackRead}
-use Rattle.image.specs.Listed.{Listed}
-use Rattle.machine.proofs.BagLaws.{ascending-carrying}
+use Rattle.image.specs.Steps.ImageReads.{BackRead}
+use Rattle.image.specs.Steps.Listed.{Listed}
+use Rattle.buckets.proofs.CarryLaws.{ascending-carrying, length-carrying}
+use Rattle.machine.specs.Images.{inBack}
 
 -- a list computed from lent bytes is the same list of the bucket whose bytes they are
 pub listed-bytes : (g : List ℕ → List ℕ) {lent bytes old new : List ℕ} {n : ℕ} → lent ≡ bytes → (n ≡ length (g lent)) × (new ≡ g lent ++ drop n old)
@@ -58,19 +60,10 @@ module _ {xs old : List ℕ} {n : ℕ} {new : List ℕ} (l : Listed xs old n new
         stands = rw (listed-take, drop-of-length-le (drop n new) d, append-nil, e) (sym (append-assoc xs ys (drop (n + m) old)));
       }
 
-length-carrying : (c : ℕ) (ys : List ℕ) → length (carrying c ys) ≤ length ys
-unfolding carrying
-length-carrying c [] = omega arith
-length-carrying c (y ∷ ys) = go (eqb (y % 16) c) (length-carrying c ys)
-  where
-    go : (b : Bool) → length (carrying c ys) ≤ length ys → length (cond b (y / 16 ∷ carrying c ys) (carrying c ys)) ≤ suc (length ys)
-    go true h = omega arith
-    go false h = omega arith
-
 -- the keys of a sound backyard bucket that carry a crumb
-module _ {B j : ℕ} {img : List ℕ} (r : BackRead B j img) (c : ℕ) where
-  pub carrying-order : T (ascending (carrying c (inBack B j img)))
-  carrying-order = ascending-carrying c (inBack B j img) (r .list .order)
+module _ {L : Layout} {B j : ℕ} {img : List ℕ} (r : BackRead L B j img) (c : ℕ) where
+  pub carrying-order : T (ascending (carrying c (inBack L B j img)))
+  carrying-order = ascending-carrying c (inBack L B j img) (r .list .order)
 
-  pub carrying-room : length (carrying c (inBack B j img)) ≤ 22
-  carrying-room = omega (arith, length-carrying c (inBack B j img), r .list .room)
+  pub carrying-room : length (carrying c (inBack L B j img)) ≤ L .backSlots
+  carrying-room = omega (arith, length-carrying c (inBack L B j img), r .list .room)

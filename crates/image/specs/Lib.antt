@@ -1,3 +1,2 @@
 -- An image as the contracts of the calls' steps speak of it.
-pub mod ImageReads
-pub mod Listed
+pub mod Steps

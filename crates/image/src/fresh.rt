@@ -2,7 +2,7 @@
 
 use crate::Size;
 use crate::place::size_of;
-use answers::Done;
+use answers::Outcome;
 use answers::Refusal;
 use edits::edit::clear;
 ghost use mathlib.Core.Path.{_≡_};
@@ -15,14 +15,14 @@ ghost use Rattle.machine.specs.Images.{repeated, put};
 ghost use Rattle.answers.specs.Answers.{Freshens};
 
 // The image becomes an empty catalogue, whatever its bytes were.
-pub fn fresh(image: &mut [u8]) -> Done
-    ensures { λ r. ⌜ Freshens (now (image .entry)) r (now (image .exit)) ⌝ }
+pub fn fresh(image: &mut [u8]) -> Outcome
+    ensures { λ r. ⌜ Freshens layout1 (now (image .entry)) r (now (image .exit)) ⌝ }
 {
     let Size::Buckets(size) = size_of(image.len()) else {
-        return Done::Refused(Refusal::WrongLength);
+        return Outcome::Refused(Refusal::WrongLength);
     };
     clear_all(image, 9 * size + 7);
-    Done::Accepted
+    Outcome::Accepted
 }
 
 // Every bucket in one pass. An empty backyard bucket has the bytes of an empty front bucket.

@@ -4,6 +4,7 @@ use crate::place::bucket;
 use crumbmap::Front;
 use edits::edit::insert_front;
 use edits::edit::remove_front;
+use edits::edit::swap_front;
 use edits::write::write_front;
 use minifilter::Reading;
 use minifilter::find::count_front;
@@ -11,25 +12,24 @@ use minifilter::read::read_front;
 ghost use mathlib.Core.Path.{_≡_};
 ghost use Prim.Native.Nat.{_+_, _*_, _<_, _≤_};
 ghost use lib.ListN.{length};
-ghost use Rattle.multiset.specs.Multisets.{added, removed, below};
+ghost use Rattle.multiset.specs.Multisets.{added, removed};
 ghost use Rattle.crumbmap.specs.Layouts.{layout1, keys};
 ghost use Rattle.buckets.specs.Buckets.{FrontList};
-ghost use Rattle.machine.specs.Images.{put, putFront};
-ghost use Rattle.image.specs.ImageReads.{inFront, FrontRead, At, FrontSays, served};
+ghost use Rattle.machine.specs.Images.{put, inFront, putFront};
+ghost use Rattle.image.specs.Steps.ImageReads.{At, FrontRead, FrontSays, FrontJoin, FrontSwapAt, occupied};
 
 // A front bucket, read whole, and how many of its members are below a key.
 pub fn read_front_at(image: &[u8], front: Front, key: u32) -> Reading
     requires { ⌜ (64 * front .0 + 64 ≤ length (now image)) × (key < keys layout1) ⌝ }
-    ensures { λ r. ⌜ FrontSays (front .0) key (now (image .entry)) r ⌝ }
+    ensures { λ r. ⌜ FrontSays layout1 (front .0) key (now (image .entry)) r ⌝ }
 {
     read_front(bucket(image, front.0), key)
 }
 
 // A key joins a front bucket that has a free slot, behind the members below it.
 pub fn insert_front_at(image: &mut [u8], front: Front, slot: usize, key: u32)
-    requires { ⌜ FrontRead (front .0) (now image) × (length (inFront (front .0) (now image)) < 28) × (key < keys layout1)
-        × (slot ≡ below key (inFront (front .0) (now image))) ⌝ }
-    ensures { λ _. ⌜ now (image .exit) ≡ putFront layout1 (front .0) (added key (inFront (front .0) (now (image .entry)))) (now (image .entry)) ⌝ }
+    requires { ⌜ FrontJoin layout1 (front .0) slot key (now image) ⌝ }
+    ensures { λ _. ⌜ now (image .exit) ≡ putFront layout1 (front .0) (added key (inFront layout1 (front .0) (now (image .entry)))) (now (image .entry)) ⌝ }
 {
     let f = front.0;
     let at = 64 * f;
@@ -39,8 +39,8 @@ pub fn insert_front_at(image: &mut [u8], front: Front, slot: usize, key: u32)
 
 // The key at a slot leaves a front bucket.
 pub fn remove_front_at(image: &mut [u8], front: Front, slot: usize, key: u32)
-    requires { ⌜ FrontRead (front .0) (now image) × At key slot (inFront (front .0) (now image)) ⌝ }
-    ensures { λ _. ⌜ now (image .exit) ≡ putFront layout1 (front .0) (removed key (inFront (front .0) (now (image .entry)))) (now (image .entry)) ⌝ }
+    requires { ⌜ FrontRead layout1 (front .0) (now image) × At key slot (inFront layout1 (front .0) (now image)) ⌝ }
+    ensures { λ _. ⌜ now (image .exit) ≡ putFront layout1 (front .0) (removed key (inFront layout1 (front .0) (now (image .entry)))) (now (image .entry)) ⌝ }
 {
     let f = front.0;
     let at = 64 * f;
@@ -50,12 +50,13 @@ pub fn remove_front_at(image: &mut [u8], front: Front, slot: usize, key: u32)
 
 // The key at slot `at` leaves a front bucket, and another one joins it, behind `slot` of the others.
 pub fn swap_front_at(image: &mut [u8], front: Front, at: usize, from: u32, slot: usize, to: u32)
-    requires { ⌜ FrontRead (front .0) (now image) × At from at (inFront (front .0) (now image)) × (to < keys layout1)
-        × (slot ≡ below to (removed from (inFront (front .0) (now image)))) ⌝ }
-    ensures { λ _. ⌜ now (image .exit) ≡ putFront layout1 (front .0) (added to (removed from (inFront (front .0) (now (image .entry))))) (now (image .entry)) ⌝ }
+    requires { ⌜ FrontSwapAt layout1 (front .0) at from slot to (now image) ⌝ }
+    ensures { λ _. ⌜ now (image .exit) ≡ putFront layout1 (front .0) (added to (removed from (inFront layout1 (front .0) (now (image .entry))))) (now (image .entry)) ⌝ }
 {
-    remove_front_at(image, front, at, from);
-    insert_front_at(image, front, slot, to);
+    let f = front.0;
+    let start = 64 * f;
+    let end = start + 64;
+    swap_front(&mut image[start..end], at, from, slot, to);
 }
 
 // A front bucket takes keys, whatever its bytes were.
@@ -70,9 +71,9 @@ pub fn fill_front_at(image: &mut [u8], front: Front, keys: &[u32])
 }
 
 // The bytes of whichever of two sound front buckets has members, the first's where it has any.
-pub fn whichever<'a>(first: &'a [u8], second: &'a [u8], front: Front) -> &'a [u8]
-    requires { ⌜ FrontRead (front .0) (now first) × FrontRead (front .0) (now second) ⌝ }
-    ensures { λ r. ⌜ (now r ≡ served (front .0) (now (first .entry)) (now (second .entry))) × (length (now r) ≡ 64) ⌝ }
+pub fn occupied_front<'a>(first: &'a [u8], second: &'a [u8], front: Front) -> &'a [u8]
+    requires { ⌜ FrontRead layout1 (front .0) (now first) × FrontRead layout1 (front .0) (now second) ⌝ }
+    ensures { λ r. ⌜ (now r ≡ occupied layout1 (front .0) (now (first .entry)) (now (second .entry))) × (length (now r) ≡ 64) ⌝ }
 {
     let mine = bucket(first, front.0);
     if count_front(mine) == 0 {

@@ -6,6 +6,7 @@ pub mod front;
 pub mod place;
 
 use crumbmap::Front;
+use crumbmap::Overflow;
 
 // What a hash names in an image: the image's size B, the front bucket f and the key of mini-bucket and tag.
 pub struct Target {
@@ -26,14 +27,16 @@ pub enum Size {
     Wrong,
 }
 
-// What reading a backyard bucket finds: how many members it holds, and how many of them are below the one that is sought.
-pub struct Ranked {
+// A backyard bucket of a front bucket that was read and is sound: where it is and the crumb that is kept there, how many members it holds, and
+// how many of them are below the key that is sought.
+pub struct BackReading {
+    pub way: Overflow,
     pub members: usize,
     pub below: usize,
 }
 
 // What reading both backyard buckets of a front bucket finds, or the table number of the first that is unsound.
-pub enum Behind {
-    Members(Ranked, Ranked),
+pub enum BackyardReading {
+    Sound(BackReading, BackReading),
     Unsound(usize),
 }

@@ -9,10 +9,10 @@ use crumbmap::fingerprint::front_of;
 use crumbmap::fingerprint::key_of;
 ghost use mathlib.Core.Path.{_≡_};
 ghost use Prim.Native.Nat.{_+_, _*_, _<_, _≤_};
-ghost use Rattle.crumbmap.specs.Layouts.{fronts, backyards};
+ghost use Rattle.crumbmap.specs.Layouts.{layout1, fronts, backyards};
 ghost use lib.ListN.{length};
 ghost use Rattle.machine.specs.Images.{sizeOf, bucketAt};
-ghost use Rattle.image.specs.ImageReads.{sizing, LocatedIn, BackIn};
+ghost use Rattle.image.specs.Steps.ImageReads.{sizing, LocatedIn, BackIn};
 
 // "A lent byte slice of 576 × B + 448 bytes, B from 1 to 65,536."
 pub fn size_of(len: usize) -> Size
@@ -34,7 +34,7 @@ pub fn size_of(len: usize) -> Size
 
 // What a hash names in an image of so many bytes.
 pub fn locate(len: usize, hash: u64) -> Located
-    ensures { λ r. ⌜ LocatedIn len hash r ⌝ }
+    ensures { λ r. ⌜ LocatedIn layout1 len hash r ⌝ }
 {
     let Size::Buckets(size) = size_of(len) else {
         return Located::Wrong;

@@ -7,31 +7,10 @@ use Rattle.image.proofs.PartLaws.{part-bucket, put-part}
 use Rattle.image.proofs.back.insert_back_at.Statement.{statement}
 use Rattle.image.proofs.back.insert_back_at.Tie as tie
 
-table-of-requires : tie.Need-table-of-requires
-table-of-requires c κs = search needs
-
-mul-at : tie.Need-mul-at
-mul-at c = search needs
-
-add-end : tie.Need-add-end
-add-end c = search needs
-
-sub-insert-back : tie.Need-sub-insert-back
-sub-insert-back c = search needs
-
-part-insert-back-start : tie.Need-part-insert-back-start
-part-insert-back-start c = search needs
-
-part-insert-back-end : tie.Need-part-insert-back-end
-part-insert-back-end c = search needs
-
 insert-back-requires : tie.Need-insert-back-requires
 insert-back-requires c κs =
     let p = c .before .before .before .pre in
-    rw (c .before .table-of .ensures, part-bucket) (p .0 .sound, p .1, p .2, p .3)
-
-same-length : tie.Need-same-length
-same-length c = search needs
+    rw (c .before .table-of .ensures, part-bucket) (record { sound = p .read .sound; free = p .room; range = p .member; rank = p .rank })
 
 returns : tie.Need-returns
 unfolding putBack
@@ -46,12 +25,12 @@ pub insert-back-at-spec : {M : Type 1} → statement M
 insert-back-at-spec =
     tie.close
     (tie.spec
-    table-of-requires
-    mul-at
-    add-end
-    sub-insert-back
-    part-insert-back-start
-    part-insert-back-end
+    (λ c κs. search needs)
+    (λ c. search needs)
+    (λ c. search needs)
+    (λ c. search needs)
+    (λ c. search needs)
+    (λ c. search needs)
     insert-back-requires
-    same-length
+    (λ c. search needs)
     returns)

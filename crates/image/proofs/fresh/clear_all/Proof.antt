@@ -8,6 +8,7 @@ use lib.ListN.{length, drop, drop-of-length-le}
 use Rattle.crumbmap.specs.Layouts.{layout1}
 use Rattle.buckets.specs.Buckets.{frontBytes}
 use Rattle.machine.specs.Images.{put, repeated}
+use Rattle.buckets.proofs.BucketLaws.{fits1}
 use Rattle.image.proofs.EmptyLaws.{length-empty-bucket, cleared-more}
 use Rattle.image.proofs.fresh.clear_all.Statement.{statement}
 use Rattle.image.proofs.fresh.clear_all.Tie as tie
@@ -24,15 +25,6 @@ loop-holds : tie.Need-loop-holds Inv-loop μ-loop
 unfolding repeated
 loop-holds c = (omega arith, refl, refl)
 
-clear-at-requires : tie.Need-clear-at-requires Inv-loop μ-loop
-clear-at-requires c κs = omega arith
-
-add-i : tie.Need-add-i Inv-loop μ-loop
-add-i c = omega arith
-
-loop-less : tie.Need-loop-less Inv-loop μ-loop
-loop-less c = omega arith
-
 loop-again : tie.Need-loop-again Inv-loop μ-loop
 loop-again c =
     let c5 = c .before .before .before .before .before in
@@ -42,7 +34,7 @@ loop-again c =
       omega arith,
       omega (arith, c .before .before .clear-at .kept .0),
       c .before .before .clear-at .ensures ∙ ap (λ (x : List ℕ). put (l .i) e x) (l .inv .2) ∙ cleared-more (l .i) e
-          (c7 .args .image .now) length-empty-bucket,
+          (c7 .args .image .now) (length-empty-bucket layout1 fits1),
     )
 
 same-length : tie.Need-same-length Inv-loop μ-loop
@@ -64,9 +56,9 @@ clear-all-spec =
     Inv-loop
     μ-loop
     loop-holds
-    clear-at-requires
-    add-i
-    loop-less
+    (λ c κs. omega arith)
+    (λ c. omega arith)
+    (λ c. omega arith)
     loop-again
     same-length
     returns)

@@ -4,22 +4,14 @@ use mathlib.Core.Option.{some}
 use native.Mathlib.Omega.{arith}
 use lib.ListN.{length}
 use borrow.Author.Needs.{needs}
+use Rattle.crumbmap.specs.Layouts.{layout1}
 use Rattle.machine.specs.Images.{lengthOf, sizeOf}
 use Rattle.machine.specs.Calls.{freshOf}
 use Rattle.machine.proofs.ImageLaws.{sizeOf-some}
 use Rattle.image.proofs.ImageReadLaws.{size-some, size-none}
-use Rattle.image.proofs.EmptyLaws.{cleared-all}
+use Rattle.image.proofs.EmptyLaws.{cleared-all, empty-back1}
 use Rattle.image.proofs.fresh.fresh.Statement.{statement}
 use Rattle.image.proofs.fresh.fresh.Tie as tie
-
-size-of-requires : tie.Need-size-of-requires
-size-of-requires c κs = search needs
-
-enum-known-size : tie.Need-enum-known-size
-enum-known-size c = search needs
-
-enum-told : tie.Need-enum-told
-enum-told c = search needs
 
 returns : tie.Need-returns
 unfolding freshOf
@@ -53,27 +45,24 @@ clear-all-requires c κs =
     let c6 = c .before .before .before .before .before .before in
     omega (arith, sizeOf-some (length (c6 .args .image .now)) (c .before .before .size .given .0 .0) (size (c .before)) .0)
 
-same-length : tie.Need-same-length
-same-length c = search needs
-
 returns-2 : tie.Need-returns-2
 unfolding freshOf
 returns-2 c =
     let c4 = c .before .before .before .before in
     let c5 = c4 .before in
     let s = size c4 in
-    record { answer = rw s; bytes = rw s (c .before .before .clear-all .ensures ∙ cleared-all (c5 .size .given .0 .0)) }
+    record { answer = rw s; bytes = rw s (c .before .before .clear-all .ensures ∙ cleared-all layout1 empty-back1 (c5 .size .given .0 .0)) }
 
 pub fresh-spec : {M : Type 1} → statement M
 fresh-spec =
     tie.close
     (tie.spec
-    size-of-requires
-    enum-known-size
-    enum-told
+    (λ c κs. search needs)
+    (λ c. search needs)
+    (λ c. search needs)
     returns
     mul-clear-all
     add-clear-all
     clear-all-requires
-    same-length
+    (λ c. search needs)
     returns-2)

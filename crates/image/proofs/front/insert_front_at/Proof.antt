@@ -5,26 +5,8 @@ use Rattle.image.proofs.PartLaws.{part-bucket, put-part}
 use Rattle.image.proofs.front.insert_front_at.Statement.{statement}
 use Rattle.image.proofs.front.insert_front_at.Tie as tie
 
-mul-at : tie.Need-mul-at
-mul-at c = search needs
-
-add-end : tie.Need-add-end
-add-end c = search needs
-
-sub-insert-front : tie.Need-sub-insert-front
-sub-insert-front c = search needs
-
-part-insert-front-start : tie.Need-part-insert-front-start
-part-insert-front-start c = search needs
-
-part-insert-front-end : tie.Need-part-insert-front-end
-part-insert-front-end c = search needs
-
 insert-front-requires : tie.Need-insert-front-requires
-insert-front-requires c κs = let p = c .before .before .pre in rw part-bucket (p .0 .sound, p .1, p .2, p .3)
-
-same-length : tie.Need-same-length
-same-length c = search needs
+insert-front-requires c κs = let p = c .before .before .pre in rw part-bucket (record { sound = p .read .sound; free = p .room; range = p .key; rank = p .rank })
 
 returns : tie.Need-returns
 unfolding putFront
@@ -36,11 +18,11 @@ pub insert-front-at-spec : {M : Type 1} → statement M
 insert-front-at-spec =
     tie.close
     (tie.spec
-    mul-at
-    add-end
-    sub-insert-front
-    part-insert-front-start
-    part-insert-front-end
+    (λ c. search needs)
+    (λ c. search needs)
+    (λ c. search needs)
+    (λ c. search needs)
+    (λ c. search needs)
     insert-front-requires
-    same-length
+    (λ c. search needs)
     returns)

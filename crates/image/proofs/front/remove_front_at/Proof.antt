@@ -5,26 +5,8 @@ use Rattle.image.proofs.PartLaws.{part-bucket, put-part}
 use Rattle.image.proofs.front.remove_front_at.Statement.{statement}
 use Rattle.image.proofs.front.remove_front_at.Tie as tie
 
-mul-at : tie.Need-mul-at
-mul-at c = search needs
-
-add-end : tie.Need-add-end
-add-end c = search needs
-
-sub-remove-front : tie.Need-sub-remove-front
-sub-remove-front c = search needs
-
-part-remove-front-start : tie.Need-part-remove-front-start
-part-remove-front-start c = search needs
-
-part-remove-front-end : tie.Need-part-remove-front-end
-part-remove-front-end c = search needs
-
 remove-front-requires : tie.Need-remove-front-requires
 remove-front-requires c κs = let p = c .before .before .pre in rw part-bucket (p .0 .sound, p .1 .inside, p .1 .same)
-
-same-length : tie.Need-same-length
-same-length c = search needs
 
 returns : tie.Need-returns
 unfolding putFront
@@ -36,11 +18,11 @@ pub remove-front-at-spec : {M : Type 1} → statement M
 remove-front-at-spec =
     tie.close
     (tie.spec
-    mul-at
-    add-end
-    sub-remove-front
-    part-remove-front-start
-    part-remove-front-end
+    (λ c. search needs)
+    (λ c. search needs)
+    (λ c. search needs)
+    (λ c. search needs)
+    (λ c. search needs)
     remove-front-requires
-    same-length
+    (λ c. search needs)
     returns)

@@ -6,15 +6,6 @@ use Rattle.machine.proofs.ImageLaws.{sizeOf-some}
 use Rattle.image.proofs.place.locate.Statement.{statement}
 use Rattle.image.proofs.place.locate.Tie as tie
 
-size-of-requires : tie.Need-size-of-requires
-size-of-requires c κs = search needs
-
-enum-known-size : tie.Need-enum-known-size
-enum-known-size c = search needs
-
-enum-told : tie.Need-enum-told
-enum-told c = search needs
-
 returns : tie.Need-returns
 returns c =
     let c3 = c .before .before .before in
@@ -27,9 +18,6 @@ front-of-requires c κs =
     let n = c4 .args .len in
     let s = sizeOf-some n (c .before .size .given .0 .0) (size-some (sizeOf n) (c3 .size-of .ensures) (c .before .size .given .1)) in
     (s .1, s .2)
-
-key-of-requires : tie.Need-key-of-requires
-key-of-requires c κs = search needs
 
 returns-2 : tie.Need-returns-2
 returns-2 c =
@@ -48,10 +36,10 @@ pub locate-spec : {M : Type 1} → statement M
 locate-spec =
     tie.close
     (tie.spec
-    size-of-requires
-    enum-known-size
-    enum-told
+    (λ c κs. search needs)
+    (λ c. search needs)
+    (λ c. search needs)
     returns
     front-of-requires
-    key-of-requires
+    (λ c κs. search needs)
     returns-2)

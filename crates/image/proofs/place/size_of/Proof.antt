@@ -11,18 +11,9 @@ returns : tie.Need-returns
 unfolding lengthOf
 returns c = size-wrong (c .before .args .len) (λ B e p h. omega arith)
 
-sub-size : tie.Need-sub-size
-sub-size c = search needs
-
 returns-2 : tie.Need-returns-2
 unfolding lengthOf
 returns-2 c = size-wrong (c .before .before .args .len) (λ B e p h. omega arith)
-
-mul-if3 : tie.Need-mul-if3
-mul-if3 c = search needs
-
-add-if3 : tie.Need-add-if3
-add-if3 c = search needs
 
 returns-3 : tie.Need-returns-3
 unfolding lengthOf
@@ -36,4 +27,4 @@ unfolding lengthOf
 returns-4 c = size-wrong (c .before .before .before .args .len) (λ B e p h. omega arith)
 
 pub size-of-spec : {M : Type 1} → statement M
-size-of-spec = tie.close (tie.spec returns sub-size returns-2 mul-if3 add-if3 returns-3 returns-4)
+size-of-spec = tie.close (tie.spec returns (λ c. search needs) returns-2 (λ c. search needs) (λ c. search needs) returns-3 returns-4)

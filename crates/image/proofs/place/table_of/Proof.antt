@@ -5,9 +5,6 @@ use Rattle.crumbmap.specs.Layouts.{fronts, backyards}
 use Rattle.image.proofs.place.table_of.Statement.{statement}
 use Rattle.image.proofs.place.table_of.Tie as tie
 
-mul-result : tie.Need-mul-result
-mul-result c = search needs
-
 add-result : tie.Need-add-result
 unfolding backyards
 add-result c = omega arith
@@ -17,4 +14,4 @@ unfolding fronts
 returns c = omega arith
 
 pub table-of-spec : {M : Type 1} → statement M
-table-of-spec = tie.close (tie.spec mul-result add-result returns)
+table-of-spec = tie.close (tie.spec (λ c. search needs) add-result returns)
