@@ -1,155 +1,195 @@
--- Lists that were written, and the members of a front bucket that was read, as the machine lists them.
--- Main results: `listed-merged`; `way-counted`, `way-listed`; `members-at`, and `held-few`, `held-full`, `held-unsound`, what counting says.
+-- Lists that were written, and the members of a front bucket that was read, as the machine lists them, for any layout.
+-- Main results: `bags-merged`, First(f) and Second(f) listed where the choices lead to; `members-merged`, `members-range`, `members-room`,
+-- `members-at`; `count-few`, `count-full`, `count-unsound`, what counting says.
 use mathlib.Core.Path.{_≡_, refl, ap}
-use Prim.Native.Nat.{ℕ, _+_, _-_, _≤_, _<_}
+use Prim.Native.Nat.{ℕ, _+_, _≤_, _<_}
 use mathlib.Core.Bool.{Bool, true, false, cond}
-use mathlib.Core.List.{List, [], _++_}
+use mathlib.Core.List.{List, []}
 use native.Mathlib.Omega.{arith}
-use lib.ListN.{length, take, drop}
+use lib.ListN.{length, take}
 use lib.Dec.{T, ltb}
 use borrow.Author.Tests.{ltb-true, ltb-false, lt-ltb, le-ltb}
 use Rattle.multiset.specs.Multisets.{ascending, Below}
-use Rattle.crumbmap.specs.Layouts.{layout1, keys, fronts}
-use Rattle.crumbmap.specs.CrumbMap.{firstBucket, secondBucket, firstCrumb, secondCrumb, bucketOf, crumbOf}
-use Rattle.crumbmap.specs.Places.{Leads}
+use Rattle.crumbmap.specs.Layouts.{Layout, keys, fronts, mostBehind, mostMembers}
+use Rattle.crumbmap.specs.CrumbMap.{bucketOf, crumbOf}
+use Rattle.crumbmap.specs.Steps.Places.{Leads}
 use Rattle.crumbmap.specs.declared.Overflow.{Overflow}
-use Rattle.buckets.specs.Buckets.{carrying}
-use Rattle.minifilter.specs.Readings.{backList, SoundBack}
 use Rattle.machine.specs.Results.{accepted, refused, andThen}
-use Rattle.machine.specs.Images.{bucketAt}
+use Rattle.machine.specs.Images.{inFront}
 use Rattle.machine.specs.Bags.{addedAll}
-use Rattle.machine.specs.Machine.{backyard, overflow, membersAt}
-use Rattle.image.specs.ImageReads.{inFront, inBack, FrontIn, FrontRead, BothRead}
-use Rattle.image.specs.Listed.{Listed}
-use Rattle.listing.specs.Listings.{overflowIn, behindIn, membersIn, MembersRead, HeldSays}
-use Rattle.listing.specs.declared.Held.{Held}
-use Rattle.listing.specs.declared.Held.the-variants as M
-use Rattle.machine.proofs.BagLaws.{below-carrying, length-addedAll, ascending-addedAll, below-addedAll}
+use Rattle.machine.specs.Machine.{backyard, overflow, bagIn, overflowIn, membersAt}
+use Rattle.machine.proofs.BagLaws.{length-addedAll, ascending-addedAll, below-addedAll}
+use Rattle.buckets.proofs.CarryLaws.{below-carrying}
+use Rattle.image.specs.Steps.ImageReads.{FrontIn, FrontRead, BackRead, BothRead}
+use Rattle.image.specs.Steps.Listed.{Listed}
+use Rattle.image.proofs.ImageReadLaws.{chosen-read, both-accepts}
+use Rattle.image.proofs.ListedLaws.{listed-take, carrying-room, carrying-order}
+use Rattle.listing.specs.Steps.Listings.{Mergeable, Merged, bagAt, behindIn, membersIn, BagRead, MembersRead, CountSays}
+use Rattle.listing.specs.declared.MemberCount.{MemberCount}
+use Rattle.listing.specs.declared.MemberCount.the-variants as M
 use Rattle.listing.proofs.MergedLists.{addedAll-nil}
-use Rattle.image.proofs.ImageReadLaws.{chosen-way}
-use Rattle.image.proofs.ListedLaws.{listed-bytes, listed-take, carrying-room, carrying-order}
 
 -- two lists that were written, merged into a third
 module _ {xs ys a b a' b' : List ℕ} {n m : ℕ} (l : Listed xs a n a') (k : Listed ys b m b') where
-  pub listed-mergeable : {r : ℕ} → T (ascending xs) → T (ascending ys) → length xs + length ys ≤ r → r ≤ 72
-      → T (ascending (take n a')) × T (ascending (take m b')) × (length (take n a') + length (take m b') ≤ r) × (r ≤ 72)
-  listed-mergeable p q h s = rw (listed-take l, listed-take k) (p, q, h, s)
+  pub listed-mergeable : {r : ℕ} → T (ascending xs) → T (ascending ys) → length xs + length ys ≤ r → Mergeable (take n a') (take m b') r
+  listed-mergeable p q h = rw (listed-take l, listed-take k) (p, q, h)
 
-  pub listed-merged : {old new : List ℕ} → new ≡ addedAll (take n a') (take m b') ++ drop (length (take n a') + length (take m b')) old
+  pub listed-merged : {old new : List ℕ} → Merged (take n a') (take m b') old new
       → Listed (addedAll xs ys) old (n + m) new
   listed-merged e = record {
     many = omega (arith, l .many, k .many, length-addedAll xs ys);
     stands = rw (l .many, k .many) (rw (listed-take l, listed-take k) at e);
   }
 
--- the lent bytes of the backyard bucket that a choice leads to: what stands in them with the crumb is First(f), or Second(f)
-module _ (t : Bool) (img : List ℕ) {B f : ℕ} {w : Overflow} (leads : Leads t B f w) {lent : List ℕ} (bytes : lent ≡ bucketAt (fronts B + w .bucket .0) img) where
-  pub way-sound : BothRead B f img → SoundBack lent × (w .crumb < 16)
-  way-sound both = rw bytes (chosen-way both t leads .sound, leads .small)
+-- ---- First(f) and Second(f)
 
-  pub way-counted : {n : ℕ} → n ≡ length (carrying (w .crumb) (backList lent)) → n ≡ length (carrying (crumbOf t f) (inBack B (bucketOf t B f) img))
-  way-counted e = rw (bytes, leads .bucket, leads .crumb) at e
+-- the bag that a choice leads to, in a backyard bucket that was read
+module _ {t : Bool} {B f : ℕ} {w : Overflow} (leads : Leads t B f w) where
+  pub bag-is : (L : Layout) (img : List ℕ) → bagAt L B w img ≡ bagIn L B f t img
+  bag-is L img = rw (leads .bucket, leads .crumb)
 
-  pub way-listed : {old new : List ℕ} {n : ℕ}
-      → (n ≡ length (carrying (w .crumb) (backList lent))) × (new ≡ carrying (w .crumb) (backList lent) ++ drop n old)
-      → Listed (carrying (crumbOf t f) (inBack B (bucketOf t B f) img)) old n new
-  way-listed l = rw (leads .bucket, leads .crumb) at (listed-bytes (λ (b : List ℕ). carrying (w .crumb) (backList b)) bytes l)
+  pub bag-read : {L : Layout} {img : List ℕ} → BackRead L B (bucketOf t B f) img → BagRead L B w img
+  bag-read r = record { read = rw (leads .bucket) r; crumb = leads .small }
 
--- First(f) and Second(f) together
-module _ (B f : ℕ) (img : List ℕ) where
-  pub length-overflow : length (overflowIn B f img) ≡ length (carrying (firstCrumb f) (inBack B (firstBucket f) img)) + length (carrying (secondCrumb f) (inBack B (secondBucket B f) img))
-  unfolding overflow
-  length-overflow = length-addedAll _ _
+  bag-listed : (L : Layout) (img : List ℕ) {old new : List ℕ} {n : ℕ} → Listed (bagAt L B w img) old n new → Listed (bagIn L B f t img) old n new
+  bag-listed L img l = rw (bag-is L img) at l
 
-  pub overflow-order : BothRead B f img → T (ascending (overflowIn B f img))
-  unfolding overflow
-  overflow-order r = ascending-addedAll _ _ (carrying-order (r .second) (secondCrumb f))
+module _ {L : Layout} {B f : ℕ} {img : List ℕ} (both : BothRead L B f img) where
+  pub bag-order : (t : Bool) → T (ascending (bagIn L B f t img))
+  bag-order t = carrying-order (chosen-read both t) (crumbOf t f)
 
-  pub overflow-range : BothRead B f img → Below (keys layout1) (overflowIn B f img)
-  unfolding overflow
-  overflow-range r =
-      below-addedAll (keys layout1) _ _ (below-carrying (keys layout1) (firstCrumb f) _ (r .first .list .range))
-      (below-carrying (keys layout1) (secondCrumb f) _ (r .second .list .range))
+  pub bag-room : (t : Bool) → length (bagIn L B f t img) ≤ L .backSlots
+  bag-room t = carrying-room (chosen-read both t) (crumbOf t f)
 
-  pub overflow-room : BothRead B f img → length (overflowIn B f img) ≤ 44
-  overflow-room r = omega (arith, length-overflow, carrying-room (r .first) (firstCrumb f), carrying-room (r .second) (secondCrumb f))
+  bag-range : (t : Bool) → Below (keys L) (bagIn L B f t img)
+  bag-range t = below-carrying (keys L) (crumbOf t f) _ (chosen-read both t .list .range)
 
--- the members of a front bucket that was read
-module _ (B f : ℕ) (img : List ℕ) (r : MembersRead B f img) where
-  pub behind-few : length (inFront f img) < 28 → behindIn B f img ≡ []
+  -- both together
+  pub overflow-order : T (ascending (overflowIn L B f img))
+  overflow-order = ascending-addedAll _ _ (bag-order false)
+
+  pub overflow-range : Below (keys L) (overflowIn L B f img)
+  overflow-range = below-addedAll (keys L) _ _ (bag-range true) (bag-range false)
+
+  pub overflow-room : length (overflowIn L B f img) ≤ mostBehind L
+  overflow-room = omega (arith, length-addedAll (bagIn L B f true img) (bagIn L B f false img), bag-room true, bag-room false)
+
+-- both bags, listed where the choices lead to, merged
+module _ {L : Layout} {B f : ℕ} {img : List ℕ} (both : BothRead L B f img) {w v : Overflow} (first : Leads true B f w) (second : Leads false B f v)
+    {a b a' b' : List ℕ} {n m : ℕ} (l : Listed (bagAt L B w img) a n a') (k : Listed (bagAt L B v img) b m b') where
+  pub bags-mergeable : {r : ℕ} → mostBehind L ≤ r → Mergeable (take n a') (take m b') r
+  bags-mergeable h =
+      listed-mergeable (bag-listed first L img l) (bag-listed second L img k) (bag-order both true) (bag-order both false)
+      (omega (arith, bag-room both true, bag-room both false))
+
+  pub bags-merged : {old new : List ℕ} → Merged (take n a') (take m b') old new
+      → Listed (overflowIn L B f img) old (n + m) new
+  bags-merged e = listed-merged (bag-listed first L img l) (bag-listed second L img k) e
+
+-- ---- the members of a front bucket that was read
+
+module _ {L : Layout} {B f : ℕ} {img : List ℕ} (r : MembersRead L B f img) where
+  pub behind-few : length (inFront L f img) < L .frontSlots → behindIn L B f img ≡ []
   unfolding behindIn
-  behind-few h = rw (lt-ltb (length (inFront f img)) 28 h)
+  behind-few h = rw (lt-ltb (length (inFront L f img)) (L .frontSlots) h)
 
-  pub behind-full : 28 ≤ length (inFront f img) → (behindIn B f img ≡ overflowIn B f img) × BothRead B f img
+  pub behind-full : L .frontSlots ≤ length (inFront L f img) → (behindIn L B f img ≡ overflowIn L B f img) × BothRead L B f img
   unfolding behindIn
-  behind-full h = (rw (le-ltb (length (inFront f img)) 28 h), r .behind (omega (arith, r .front .list .room)))
+  behind-full h = (rw (le-ltb (length (inFront L f img)) (L .frontSlots) h), r .behind (omega (arith, r .front .list .room)))
 
-  pub members-few : length (inFront f img) < 28 → membersIn B f img ≡ inFront f img
+  pub members-few : length (inFront L f img) < L .frontSlots → membersIn L B f img ≡ inFront L f img
   unfolding membersIn
-  members-few h = rw (behind-few h, addedAll-nil (inFront f img) (r .front .list .order))
+  members-few h = rw (behind-few h, addedAll-nil (inFront L f img) (r .front .list .order))
+
+  pub members-full : L .frontSlots ≤ length (inFront L f img) → membersIn L B f img ≡ addedAll (inFront L f img) (overflowIn L B f img)
+  unfolding membersIn
+  members-full h = rw (behind-full h .0)
+
+  -- those of a full front bucket and those behind it, merged
+  module _ (full : L .frontSlots ≤ length (inFront L f img)) {a b a' b' : List ℕ} {n m : ℕ} (l : Listed (inFront L f img) a n a')
+      (k : Listed (overflowIn L B f img) b m b') where
+    pub members-mergeable : {r : ℕ} → mostMembers L ≤ r → Mergeable (take n a') (take m b') r
+    members-mergeable h =
+        let both = behind-full full .1 in
+        listed-mergeable l k (r .front .list .order) (overflow-order both) (omega (arith, r .front .list .room, overflow-room both))
+
+    pub members-merged : {old new : List ℕ} → Merged (take n a') (take m b') old new
+        → Listed (membersIn L B f img) old (n + m) new
+    members-merged e = rw (members-full full) (listed-merged l k e)
 
   -- what holds of nothing and of First(f) and Second(f) holds of those that count
-  either : (P : List ℕ → Type 0) → P [] → (BothRead B f img → P (overflowIn B f img)) → P (behindIn B f img)
-  either P p q = go (ltb (length (inFront f img)) 28) refl
+  either : (P : List ℕ → Type 0) → P [] → (BothRead L B f img → P (overflowIn L B f img)) → P (behindIn L B f img)
+  either P p q = go (ltb (length (inFront L f img)) (L .frontSlots)) refl
     where
-      go : (b : Bool) → ltb (length (inFront f img)) 28 ≡ b → P (behindIn B f img)
-      go true e = rw (behind-few (ltb-true (length (inFront f img)) 28 e)) p
-      go false e = let h = behind-full (ltb-false (length (inFront f img)) 28 e) in rw (h .0) (q (h .1))
+      go : (b : Bool) → ltb (length (inFront L f img)) (L .frontSlots) ≡ b → P (behindIn L B f img)
+      go true e = rw (behind-few (ltb-true (length (inFront L f img)) (L .frontSlots) e)) p
+      go false e = let h = behind-full (ltb-false (length (inFront L f img)) (L .frontSlots) e) in rw (h .0) (q (h .1))
 
-  pub behind-order : T (ascending (behindIn B f img))
-  behind-order = either (λ (l : List ℕ). T (ascending l)) (unfold ascending in tt) (overflow-order B f img)
+  pub behind-order : T (ascending (behindIn L B f img))
+  behind-order = either (λ (l : List ℕ). T (ascending l)) (unfold ascending in tt) (λ b. overflow-order b)
 
-  pub behind-room : length (behindIn B f img) ≤ 44
-  behind-room = either (λ (l : List ℕ). length l ≤ 44) (omega arith) (overflow-room B f img)
+  pub behind-room : length (behindIn L B f img) ≤ mostBehind L
+  behind-room = either (λ (l : List ℕ). length l ≤ mostBehind L) (omega arith) (λ b. overflow-room b)
 
-  pub length-members : length (membersIn B f img) ≡ length (inFront f img) + length (behindIn B f img)
+  pub length-members : length (membersIn L B f img) ≡ length (inFront L f img) + length (behindIn L B f img)
   unfolding membersIn
   length-members = length-addedAll _ _
 
-  pub members-range : Below (keys layout1) (membersIn B f img)
+  pub members-room : length (membersIn L B f img) ≤ mostMembers L
+  members-room = omega (arith, length-members, r .front .list .room, behind-room)
+
+  pub members-range : Below (keys L) (membersIn L B f img)
   unfolding membersIn
-  members-range = below-addedAll (keys layout1) _ _ (r .front .list .range) (either (Below (keys layout1)) tt (overflow-range B f img))
+  members-range = below-addedAll (keys L) _ _ (r .front .list .range) (either (Below (keys L)) tt (λ b. overflow-range b))
 
-  pub members-at : membersAt layout1 B f img ≡ accepted (membersIn B f img)
-  unfolding membersAt membersIn
-  members-at = rw (r .front .accepts) (go (ltb (length (inFront f img)) 28) refl)
+  pub members-at : membersAt L B f img ≡ accepted (membersIn L B f img)
+  unfolding membersAt overflow
+  members-at = rw (r .front .accepts) (go (ltb (length (inFront L f img)) (L .frontSlots)) refl)
     where
-      go : (b : Bool) → ltb (length (inFront f img)) 28 ≡ b
-          → cond b (accepted (inFront f img)) (andThen (backyard layout1 B f img) λ b. accepted (addedAll (inFront f img) (overflow layout1 B f b)))
-          ≡ accepted (addedAll (inFront f img) (behindIn B f img))
-      go true e =
-          rw (behind-few (ltb-true (length (inFront f img)) 28 e), addedAll-nil (inFront f img) (r .front .list .order))
+      go : (b : Bool) → ltb (length (inFront L f img)) (L .frontSlots) ≡ b
+          → cond b (accepted (inFront L f img)) (andThen (backyard L B f img) λ b. accepted (addedAll (inFront L f img) (overflow L B f b)))
+          ≡ accepted (membersIn L B f img)
+      go true e = rw (members-few (ltb-true (length (inFront L f img)) (L .frontSlots) e))
       go false e =
-          let h = behind-full (ltb-false (length (inFront f img)) 28 e) in
-          rw (h .0, h .1 .first .accepts, h .1 .second .accepts)
+          let h = ltb-false (length (inFront L f img)) (L .frontSlots) e in
+          rw (both-accepts (behind-full h .1), members-full h)
 
--- what counting them says: fewer than 28 in front; 28, and b0 and b1 sound; one of those unsound
-module _ (B f : ℕ) (img : List ℕ) where
-  pub held-few : FrontIn B f img → FrontRead f img → length (inFront f img) < 28 → {n : ℕ} → length (inFront f img) ≡ n
-      → MembersRead B f img × (length (membersIn B f img) ≡ n)
-  held-few i r h e =
-      let m : MembersRead B f img = record { within = i; front = r; behind = λ k. absurd (omega arith) } in
-      (m, omega (arith, length-members B f img m, ap length (behind-few B f img m h), e))
+-- ---- how many they are
 
-  pub held-full : FrontIn B f img → FrontRead f img → 28 ≤ length (inFront f img) → BothRead B f img
-      → {n k : ℕ} → length (inFront f img) ≡ n → k ≡ length (overflowIn B f img)
-      → MembersRead B f img × (length (membersIn B f img) ≡ n + k)
-  held-full i r h o e g =
-      let m : MembersRead B f img = record { within = i; front = r; behind = λ k. o } in
-      (m, omega (arith, length-members B f img m, ap length (behind-full B f img m h .0), e, g))
+-- fewer in front than its slots; all its slots, and b0 and b1 sound; one of those unsound
+module _ {L : Layout} {f : ℕ} {img : List ℕ} (front : FrontRead L f img) where
+  pub count-few : {B : ℕ} → FrontIn B f img → length (inFront L f img) < L .frontSlots
+      → MembersRead L B f img × (length (membersIn L B f img) ≡ length (inFront L f img))
+  count-few {B} i h =
+      let m : MembersRead L B f img = record { within = i; front = front; behind = λ k. absurd (omega arith) } in
+      (m, ap length (members-few m h))
 
-  pub held-unsound : FrontRead f img → 28 ≤ length (inFront f img) → {i : ℕ} → backyard layout1 B f img ≡ refused 3 i
-      → membersAt layout1 B f img ≡ refused 3 i
+  pub count-full : {B : ℕ} → FrontIn B f img → L .frontSlots ≤ length (inFront L f img) → BothRead L B f img
+      → MembersRead L B f img
+      × (length (membersIn L B f img) ≡ length (inFront L f img) + length (bagIn L B f true img) + length (bagIn L B f false img))
+  count-full {B} i h both =
+      let m : MembersRead L B f img = record { within = i; front = front; behind = λ k. both } in (
+        m,
+        omega (
+          arith,
+          ap length (members-full m h),
+          length-addedAll (inFront L f img) (overflowIn L B f img),
+          length-addedAll (bagIn L B f true img) (bagIn L B f false img),
+        ),
+      )
+
+  pub count-unsound : (B : ℕ) → L .frontSlots ≤ length (inFront L f img) → {i : ℕ} → backyard L B f img ≡ refused 3 i
+      → membersAt L B f img ≡ refused 3 i
   unfolding membersAt
-  held-unsound r h e = rw (r .accepts, le-ltb (length (inFront f img)) 28 h, e)
+  count-unsound B h e = rw (front .accepts, le-ltb (length (inFront L f img)) (L .frontSlots) h, e)
 
 -- what a count said
-module _ (B f : ℕ) (img : List ℕ) {r : Held} (said : HeldSays B f img r) where
-  pub held-members : {n : ℕ} → r ≡ M.Members n → MembersRead B f img × (length (membersIn B f img) ≡ n)
-  held-members e = rw e at said
+module _ (L : Layout) (B f : ℕ) (img : List ℕ) {r : MemberCount} (said : CountSays L B f img r) where
+  pub count-members : {n : ℕ} → r ≡ M.Members n → MembersRead L B f img × (length (membersIn L B f img) ≡ n)
+  count-members e = rw e at said
 
-  pub held-refused : {i : ℕ} → r ≡ M.Unsound i → membersAt layout1 B f img ≡ refused 3 i
-  held-refused e = rw e at said
+  pub count-refused : {i : ℕ} → r ≡ M.Unsound i → membersAt L B f img ≡ refused 3 i
+  count-refused e = rw e at said
 
 -- a front bucket of an image has a number that every fingerprint allows
 pub front-small : {B f : ℕ} {img : List ℕ} → FrontIn B f img → f < fronts 65536

@@ -1,2 +1,2 @@
 -- The steps of page and of listing a front bucket.
-pub mod Listings
+pub mod Steps

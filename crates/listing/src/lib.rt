@@ -5,13 +5,13 @@ pub mod members;
 pub mod page;
 
 // How many members a front bucket has with those behind it, or the table number of the first bucket that is unsound.
-pub enum Held {
+pub enum MemberCount {
     Members(usize),
     Unsound(usize),
 }
 
 // How far a run of whole buckets goes: the next bucket, or the table number of one that is unsound.
-pub enum Reach {
+pub enum RunEnd {
     Next(usize),
     Unsound(usize),
 }

@@ -1,18 +1,14 @@
 // Two ascending lists of keys merged into one.
 
 ghost use mathlib.Core.Path.{_≡_};
-ghost use mathlib.Core.List.{_++_};
-ghost use Prim.Native.Nat.{_+_, _≤_};
+ghost use Prim.Native.Nat.{_≤_};
 ghost use lib.ListN.{length, drop};
-ghost use lib.Dec.{T};
-ghost use Rattle.multiset.specs.Multisets.{ascending};
-ghost use Rattle.machine.specs.Bags.{addedAll};
-ghost use Rattle.listing.specs.Listings.{fromLeft};
+ghost use Rattle.listing.specs.Steps.Listings.{Mergeable, Merged, fromLeft};
 
 // The keys of both lists, ascending, into the start of `out`.
 pub fn merge_into(a: &[u32], b: &[u32], out: &mut [u32])
-    requires { ⌜ T (ascending (now a)) × T (ascending (now b)) × (length (now a) + length (now b) ≤ length (now out)) × (length (now out) ≤ 72) ⌝ }
-    ensures { λ _. ⌜ now (out .exit) ≡ addedAll (now (a .entry)) (now (b .entry)) ++ drop (length (now (a .entry)) + length (now (b .entry))) (now (out .entry)) ⌝ }
+    requires { ⌜ Mergeable (now a) (now b) (length (now out)) ⌝ }
+    ensures { λ _. ⌜ Merged (now (a .entry)) (now (b .entry)) (now (out .entry)) (now (out .exit)) ⌝ }
 {
     let n = a.len() + b.len();
     let mut i = 0;

@@ -1,13 +1,18 @@
 // All members of a front bucket, those behind it too: how many, and the list. "b0 and b1 are read where Front holds 28;
 // elsewhere the members are those of Front alone."
 
-use crate::Held;
+use crate::MemberCount;
 use crate::lists::merge_into;
 use crumbmap::Front;
+use crumbmap::Overflow;
+use crumbmap::layout::BACK_SLOTS;
+use crumbmap::layout::FRONT_SLOTS;
+use crumbmap::layout::MOST_BEHIND;
 use crumbmap::map::first_of;
 use crumbmap::map::second_of;
-use image::Behind;
-use image::back::read_behind;
+use crumbmap::map::ways_of;
+use image::BackyardReading;
+use image::back::read_backyard;
 use image::front::read_front_at;
 use image::place::back_bucket;
 use image::place::bucket;
@@ -17,60 +22,66 @@ use minifilter::find::count_front;
 use minifilter::find::list_carrying;
 use minifilter::find::list_front;
 ghost use mathlib.Core.Path.{_≡_};
-ghost use Prim.Native.Nat.{_<_, _≤_};
+ghost use Prim.Native.Nat.{_≤_};
 ghost use lib.ListN.{length};
-ghost use Rattle.image.specs.ImageReads.{inFront, FrontIn};
-ghost use Rattle.image.specs.Listed.{Listed};
-ghost use Rattle.listing.specs.Listings.{overflowIn, membersIn, BehindRead, MembersRead, HeldSays};
+ghost use Rattle.crumbmap.specs.Layouts.{layout1, mostBehind, mostMembers};
+ghost use Rattle.machine.specs.Images.{inFront};
+ghost use Rattle.machine.specs.Machine.{overflowIn};
+ghost use Rattle.image.specs.Steps.ImageReads.{FrontIn};
+ghost use Rattle.image.specs.Steps.Listed.{Listed};
+ghost use Rattle.listing.specs.Steps.Listings.{bagAt, membersIn, BagRead, BackyardRead, MembersRead, CountSays};
 
 // How many members a front bucket has.
-pub(crate) fn count_members(image: &[u8], size: usize, front: Front) -> Held
+pub(crate) fn count_members(image: &[u8], size: usize, front: Front) -> MemberCount
     requires { ⌜ FrontIn size (front .0) (now image) ⌝ }
-    ensures { λ r. ⌜ HeldSays size (front .0) (now (image .entry)) r ⌝ }
+    ensures { λ r. ⌜ CountSays layout1 size (front .0) (now (image .entry)) r ⌝ }
 {
     let Reading::Members(n, _) = read_front_at(image, front, 0) else {
-        return Held::Unsound(front.0);
+        return MemberCount::Unsound(front.0);
     };
-    if n < 28 {
-        return Held::Members(n);
+    if n < FRONT_SLOTS {
+        return MemberCount::Members(n);
     }
-    match read_behind(image, size, front, 0) {
-        Behind::Unsound(table) => Held::Unsound(table),
-        Behind::Members(_, _) => Held::Members(n + count_overflow(image, size, front)),
+    match read_backyard(image, size, front, ways_of(front, size), 0) {
+        BackyardReading::Unsound(table) => MemberCount::Unsound(table),
+        BackyardReading::Sound(a, b) => {
+            let first = count_bag(image, size, a.way);
+            let second = count_bag(image, size, b.way);
+            let near = n + first;
+            let all = near + second;
+            MemberCount::Members(all)
+        }
     }
 }
 
-// First(f) and Second(f): how many.
-fn count_overflow(image: &[u8], size: usize, front: Front) -> usize
-    requires { ⌜ BehindRead size (front .0) (now image) ⌝ }
-    ensures { λ r. ⌜ (r ≡ length (overflowIn size (front .0) (now (image .entry)))) × (r ≤ 44) ⌝ }
+// The keys that carry a crumb in a backyard bucket that was read: how many.
+fn count_bag(image: &[u8], size: usize, way: Overflow) -> usize
+    requires { ⌜ BagRead layout1 size way (now image) ⌝ }
+    ensures { λ r. ⌜ (r ≡ length (bagAt layout1 size way (now (image .entry)))) × (r ≤ layout1 .backSlots) ⌝ }
 {
-    let b0 = first_of(front, size);
-    let first = count_carrying(back_bucket(image, size, b0.bucket), b0.crumb);
-    let b1 = second_of(front, size);
-    let second = count_carrying(back_bucket(image, size, b1.bucket), b1.crumb);
-    first + second
+    count_carrying(back_bucket(image, size, way.bucket), way.crumb)
 }
 
 // The members of a front bucket, ascending, into the start of `out`; how many.
 pub fn list_members(image: &[u8], size: usize, front: Front, out: &mut [u32]) -> usize
-    requires { ⌜ MembersRead size (front .0) (now image) × (length (now out) ≡ 72) ⌝ }
-    ensures { λ r. ⌜ Listed (membersIn size (front .0) (now (image .entry))) (now (out .entry)) r (now (out .exit)) ⌝ }
+    requires { ⌜ MembersRead layout1 size (front .0) (now image) × (length (now out) ≡ mostMembers layout1) ⌝ }
+    ensures { λ r. ⌜ Listed (membersIn layout1 size (front .0) (now (image .entry))) (now (out .entry)) r (now (out .exit)) ⌝ }
 {
     let mine = bucket(image, front.0);
-    if count_front(mine) < 28 {
-        return list_front(mine, &mut out[..28]);
+    if count_front(mine) < FRONT_SLOTS {
+        return list_front(mine, &mut out[..FRONT_SLOTS]);
     }
     list_full(image, size, front, out)
 }
 
 // The same where the front bucket holds 28: those behind it count too.
 fn list_full(image: &[u8], size: usize, front: Front, out: &mut [u32]) -> usize
-    requires { ⌜ MembersRead size (front .0) (now image) × (28 ≤ length (inFront (front .0) (now image))) × (length (now out) ≡ 72) ⌝ }
-    ensures { λ r. ⌜ Listed (membersIn size (front .0) (now (image .entry))) (now (out .entry)) r (now (out .exit)) ⌝ }
+    requires { ⌜ MembersRead layout1 size (front .0) (now image) × (layout1 .frontSlots ≤ length (inFront layout1 (front .0) (now image)))
+        × (length (now out) ≡ mostMembers layout1) ⌝ }
+    ensures { λ r. ⌜ Listed (membersIn layout1 size (front .0) (now (image .entry))) (now (out .entry)) r (now (out .exit)) ⌝ }
 {
-    let mut keys = [0u32; 28];
-    let mut over = [0u32; 44];
+    let mut keys = [0u32; FRONT_SLOTS];
+    let mut over = [0u32; MOST_BEHIND];
     let n = list_front(bucket(image, front.0), &mut keys);
     let m = list_overflow(image, size, front, &mut over);
     merge_into(&keys[..n], &over[..m], out);
@@ -79,15 +90,21 @@ fn list_full(image: &[u8], size: usize, front: Front, out: &mut [u32]) -> usize
 
 // First(f) and Second(f), ascending, into the start of `out`; how many.
 fn list_overflow(image: &[u8], size: usize, front: Front, out: &mut [u32]) -> usize
-    requires { ⌜ BehindRead size (front .0) (now image) × (length (now out) ≡ 44) ⌝ }
-    ensures { λ r. ⌜ Listed (overflowIn size (front .0) (now (image .entry))) (now (out .entry)) r (now (out .exit)) ⌝ }
+    requires { ⌜ BackyardRead layout1 size (front .0) (now image) × (length (now out) ≡ mostBehind layout1) ⌝ }
+    ensures { λ r. ⌜ Listed (overflowIn layout1 size (front .0) (now (image .entry))) (now (out .entry)) r (now (out .exit)) ⌝ }
 {
-    let mut first = [0u32; 22];
-    let mut second = [0u32; 22];
-    let b0 = first_of(front, size);
-    let n = list_carrying(back_bucket(image, size, b0.bucket), b0.crumb, &mut first);
-    let b1 = second_of(front, size);
-    let m = list_carrying(back_bucket(image, size, b1.bucket), b1.crumb, &mut second);
+    let mut first = [0u32; BACK_SLOTS];
+    let mut second = [0u32; BACK_SLOTS];
+    let n = list_bag(image, size, first_of(front, size), &mut first);
+    let m = list_bag(image, size, second_of(front, size), &mut second);
     merge_into(&first[..n], &second[..m], out);
     n + m
+}
+
+// The keys that carry a crumb in a backyard bucket that was read, ascending, into the start of `out`; how many.
+fn list_bag(image: &[u8], size: usize, way: Overflow, out: &mut [u32]) -> usize
+    requires { ⌜ BagRead layout1 size way (now image) × (length (now out) ≡ layout1 .backSlots) ⌝ }
+    ensures { λ r. ⌜ Listed (bagAt layout1 size way (now (image .entry))) (now (out .entry)) r (now (out .exit)) ⌝ }
+{
+    list_carrying(back_bucket(image, size, way.bucket), way.crumb, out)
 }

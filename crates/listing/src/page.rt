@@ -1,14 +1,15 @@
 // Page: "writes the members of the longest run of whole buckets s, s + 1, .. that fits, ascending; gives how many and the next bucket".
 // One pass reads and counts, a second writes without reading again.
 
-use crate::Held;
-use crate::Reach;
+use crate::MemberCount;
+use crate::RunEnd;
 use crate::members::count_members;
 use crate::members::list_members;
-use answers::Paged;
+use answers::PageResult;
 use answers::Refusal;
 use crumbmap::Front;
 use crumbmap::fingerprint::number_of;
+use crumbmap::layout::MOST_MEMBERS;
 use image::Size;
 use image::place::size_of;
 ghost use mathlib.Core.Path.{_≡_};
@@ -20,67 +21,67 @@ ghost use Rattle.crumbmap.specs.Layouts.{layout1, keys as allKeys, fronts};
 ghost use Rattle.crumbmap.specs.Fingerprints.{fingerprint};
 ghost use Rattle.machine.specs.Pages.{pageFrom};
 ghost use Rattle.answers.specs.Answers.{Pages, Writes};
-ghost use Rattle.image.specs.ImageReads.{Whole};
-ghost use Rattle.image.specs.Listed.{Listed};
-ghost use Rattle.listing.specs.Listings.{membersIn, MembersRead, entriesIn, Ran, ReachSays};
+ghost use Rattle.image.specs.Steps.ImageReads.{Whole};
+ghost use Rattle.image.specs.Steps.Listed.{Listed};
+ghost use Rattle.listing.specs.Steps.Listings.{membersIn, MembersRead, entriesIn, Ran, EndSays};
 
 // The members from front bucket `start` on into `out`: how many, and the next bucket.
-pub fn page(image: &[u8], start: usize, out: &mut [u64]) -> Paged
-    ensures { λ r. ⌜ Pages (now (image .entry)) start (now (out .entry)) r (now (out .exit)) ⌝ }
+pub fn page(image: &[u8], start: usize, out: &mut [u64]) -> PageResult
+    ensures { λ r. ⌜ Pages layout1 (now (image .entry)) start (now (out .entry)) r (now (out .exit)) ⌝ }
 {
     let Size::Buckets(size) = size_of(image.len()) else {
-        return Paged::Refused(Refusal::WrongLength);
+        return PageResult::Refused(Refusal::WrongLength);
     };
     if 8 * size < start {
-        return Paged::Refused(Refusal::PastEnd);
+        return PageResult::Refused(Refusal::PastEnd);
     }
     page_from(image, size, start, out)
 }
 
 // From a front bucket of the image, or from its end.
-fn page_from(image: &[u8], size: usize, start: usize, out: &mut [u64]) -> Paged
+fn page_from(image: &[u8], size: usize, start: usize, out: &mut [u64]) -> PageResult
     requires { ⌜ Whole size (now image) × (start ≤ fronts size) ⌝ }
     ensures { λ r. ⌜ Writes (pageFrom layout1 size start (length (now (out .entry))) (now (image .entry))) (now (out .entry)) r (now (out .exit)) ⌝ }
 {
     match measure(image, size, start, out.len()) {
-        Reach::Unsound(table) => Paged::Refused(Refusal::Unsound(table)),
-        Reach::Next(next) => {
+        RunEnd::Unsound(table) => PageResult::Refused(Refusal::Unsound(table)),
+        RunEnd::Next(next) => {
             if next == start {
                 if start < 8 * size {
-                    return Paged::Refused(Refusal::NoRoom);
+                    return PageResult::Refused(Refusal::NoRoom);
                 }
             }
-            Paged::Accepted(write_run(image, size, start, next, out), next)
+            PageResult::Accepted(write_run(image, size, start, next, out), next)
         }
     }
 }
 
 // How far the run goes: buckets are read and counted "until one does not fit".
-fn measure(image: &[u8], size: usize, start: usize, room: usize) -> Reach
+fn measure(image: &[u8], size: usize, start: usize, room: usize) -> RunEnd
     requires { ⌜ Whole size (now image) × (start ≤ fronts size) ⌝ }
-    ensures { λ r. ⌜ ReachSays size start room (now (image .entry)) r ⌝ }
+    ensures { λ r. ⌜ EndSays layout1 size start room (now (image .entry)) r ⌝ }
 {
     let mut f = start;
     let mut left = room;
     while f < 8 * size {
         match count_members(image, size, Front(f)) {
-            Held::Unsound(table) => return Reach::Unsound(table),
-            Held::Members(n) => {
+            MemberCount::Unsound(table) => return RunEnd::Unsound(table),
+            MemberCount::Members(n) => {
                 if left < n {
-                    return Reach::Next(f);
+                    return RunEnd::Next(f);
                 }
                 left -= n;
                 f += 1;
             }
         }
     }
-    Reach::Next(f)
+    RunEnd::Next(f)
 }
 
 // The buckets of a measured run, one after the other, into the start of `out`; how many members.
 fn write_run(image: &[u8], size: usize, start: usize, next: usize, out: &mut [u64]) -> usize
-    requires { ⌜ Ran size start (length (now out)) (now image) next ⌝ }
-    ensures { λ r. ⌜ Listed (entriesIn size (next - start) start (now (image .entry))) (now (out .entry)) r (now (out .exit)) ⌝ }
+    requires { ⌜ Ran layout1 size start (length (now out)) (now image) next ⌝ }
+    ensures { λ r. ⌜ Listed (entriesIn layout1 size (next - start) start (now (image .entry))) (now (out .entry)) r (now (out .exit)) ⌝ }
 {
     let mut f = start;
     let mut n = 0;
@@ -93,10 +94,11 @@ fn write_run(image: &[u8], size: usize, start: usize, next: usize, out: &mut [u6
 
 // The fingerprints of a bucket's members into the start of `out`; how many.
 fn write_bucket(image: &[u8], size: usize, front: Front, out: &mut [u64]) -> usize
-    requires { ⌜ MembersRead size (front .0) (now image) × (length (membersIn size (front .0) (now image)) ≤ length (now out)) ⌝ }
-    ensures { λ r. ⌜ Listed (map (fingerprint layout1 (front .0)) (membersIn size (front .0) (now (image .entry)))) (now (out .entry)) r (now (out .exit)) ⌝ }
+    requires { ⌜ MembersRead layout1 size (front .0) (now image) × (length (membersIn layout1 size (front .0) (now image)) ≤ length (now out)) ⌝ }
+    ensures { λ r. ⌜ Listed (map (fingerprint layout1 (front .0)) (membersIn layout1 size (front .0) (now (image .entry))))
+        (now (out .entry)) r (now (out .exit)) ⌝ }
 {
-    let mut keys = [0u32; 72];
+    let mut keys = [0u32; MOST_MEMBERS];
     let n = list_members(image, size, front, &mut keys);
     number_all(front, &keys[..n], out);
     n
@@ -105,7 +107,8 @@ fn write_bucket(image: &[u8], size: usize, front: Front, out: &mut [u64]) -> usi
 // The fingerprints of a front bucket's keys into the start of `out`.
 fn number_all(front: Front, keys: &[u32], out: &mut [u64])
     requires { ⌜ (front .0 < fronts 65536) × Below (allKeys layout1) (now keys) × (length (now keys) ≤ length (now out)) ⌝ }
-    ensures { λ _. ⌜ now (out .exit) ≡ map (fingerprint layout1 (front .0)) (now (keys .entry)) ++ drop (length (now (keys .entry))) (now (out .entry)) ⌝ }
+    ensures { λ _. ⌜ now (out .exit) ≡
+        map (fingerprint layout1 (front .0)) (now (keys .entry)) ++ drop (length (now (keys .entry))) (now (out .entry)) ⌝ }
 {
     let mut i = 0;
     while i < keys.len() {

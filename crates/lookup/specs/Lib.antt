@@ -1,2 +1,2 @@
 -- The steps of ask and count.
-pub mod Lookups
+pub mod Steps

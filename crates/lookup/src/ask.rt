@@ -1,11 +1,12 @@
 // Ask: "reads the front bucket; if g is not there, and Front(f) holds 28 and g exceeds its largest, b0, then, if not found, b1".
 
 use crate::Sought;
-use answers::Answer;
+use answers::AskResult;
 use answers::Asked;
 use answers::Place;
 use answers::Refusal;
 use crumbmap::Overflow;
+use crumbmap::layout::FRONT_SLOTS;
 use crumbmap::map::first_of;
 use crumbmap::map::second_of;
 use image::Located;
@@ -27,37 +28,37 @@ ghost use Rattle.machine.specs.Images.{backAt};
 ghost use Rattle.machine.specs.Machine.{askAt, asked, nowhere};
 ghost use Rattle.machine.specs.Calls.{askOf};
 ghost use Rattle.answers.specs.Answers.{askedOf};
-ghost use Rattle.image.specs.ImageReads.{Placed, BackIn, Exceeds};
-ghost use Rattle.lookup.specs.Lookups.{soughtIn};
+ghost use Rattle.image.specs.Steps.ImageReads.{Placed, BackIn, Exceeds};
+ghost use Rattle.lookup.specs.Steps.Lookups.{soughtIn};
 
 // Where the fingerprint of a hash stands, and how many buckets were read to tell.
-pub fn ask(image: &[u8], hash: u64) -> Answer
+pub fn ask(image: &[u8], hash: u64) -> AskResult
     ensures { λ r. ⌜ askedOf r ≡ askOf layout1 (now (image .entry)) hash ⌝ }
 {
     let Located::At(target) = locate(image.len(), hash) else {
-        return Answer::Refused(Refusal::WrongLength);
+        return AskResult::Refused(Refusal::WrongLength);
     };
-    ask_front(image, target)
+    ask_at(image, target)
 }
 
-// The front bucket.
-fn ask_front(image: &[u8], target: Target) -> Answer
-    requires { ⌜ Placed target (now image) ⌝ }
+// What a hash names: the front bucket, then those behind it.
+fn ask_at(image: &[u8], target: Target) -> AskResult
+    requires { ⌜ Placed layout1 target (now image) ⌝ }
     ensures { λ r. ⌜ askedOf r ≡ askAt layout1 (target .size) (target .front .0) (target .key) (now (image .entry)) ⌝ }
 {
     let front = target.front;
     let key = target.key;
     let Reading::Members(n, slot) = read_front_at(image, front, key) else {
-        return Answer::Refused(Refusal::Unsound(front.0));
+        return AskResult::Refused(Refusal::Unsound(front.0));
     };
     let b = bucket(image, front.0);
     if 0 < copies_front(b, slot, key) {
-        return Answer::Accepted(Asked {
+        return AskResult::Accepted(Asked {
             reads: 1,
             place: Place::Front(slot),
         });
     }
-    if n < 28 {
+    if n < FRONT_SLOTS {
         return none_in(1);
     }
     if key <= largest_front(b) {
@@ -67,22 +68,22 @@ fn ask_front(image: &[u8], target: Target) -> Answer
 }
 
 // The backyard buckets of a front bucket that holds 28, all smaller.
-fn ask_behind(image: &[u8], target: Target) -> Answer
-    requires { ⌜ Placed target (now image) × Exceeds (target .front .0) (target .key) (now image) ⌝ }
+fn ask_behind(image: &[u8], target: Target) -> AskResult
+    requires { ⌜ Placed layout1 target (now image) × Exceeds layout1 (target .front .0) (target .key) (now image) ⌝ }
     ensures { λ r. ⌜ askedOf r ≡ askAt layout1 (target .size) (target .front .0) (target .key) (now (image .entry)) ⌝ }
 {
     let size = target.size;
     let front = target.front;
     let key = target.key;
     match seek(image, size, first_of(front, size), key) {
-        Sought::Unsound(table) => Answer::Refused(Refusal::Unsound(table)),
-        Sought::At(slot) => Answer::Accepted(Asked {
+        Sought::Unsound(table) => AskResult::Refused(Refusal::Unsound(table)),
+        Sought::At(slot) => AskResult::Accepted(Asked {
             reads: 2,
             place: Place::First(slot),
         }),
         Sought::Absent => match seek(image, size, second_of(front, size), key) {
-            Sought::Unsound(table) => Answer::Refused(Refusal::Unsound(table)),
-            Sought::At(slot) => Answer::Accepted(Asked {
+            Sought::Unsound(table) => AskResult::Refused(Refusal::Unsound(table)),
+            Sought::At(slot) => AskResult::Accepted(Asked {
                 reads: 3,
                 place: Place::Second(slot),
             }),
@@ -109,10 +110,10 @@ fn seek(image: &[u8], size: usize, way: Overflow, key: u32) -> Sought
 }
 
 // Nothing was found in so many reads.
-fn none_in(reads: u32) -> Answer
+fn none_in(reads: u32) -> AskResult
     ensures { λ r. ⌜ askedOf r ≡ asked reads nowhere ⌝ }
 {
-    Answer::Accepted(Asked {
+    AskResult::Accepted(Asked {
         reads,
         place: Place::Nowhere,
     })

@@ -1,2 +1,2 @@
 -- The passes of a check.
-pub mod Passes
+pub mod Steps

@@ -1,11 +1,13 @@
 // Check: "all buckets sound by table number, then each backyard member's front bucket holds 28, none larger than that member".
 
 use crate::Fault;
-use answers::Done;
+use answers::Outcome;
 use answers::Refusal;
 use crumbmap::Backyard;
 use crumbmap::Front;
 use crumbmap::Home;
+use crumbmap::layout::BACK_SLOTS;
+use crumbmap::layout::FRONT_SLOTS;
 use crumbmap::map::home_of;
 use image::Size;
 use image::back::read_back_at;
@@ -22,34 +24,35 @@ ghost use mathlib.Core.Path.{_≡_};
 ghost use Prim.Native.Nat.{_/_, _%_, _<_};
 ghost use Rattle.crumbmap.specs.Layouts.{layout1, fronts, backyards};
 ghost use Rattle.crumbmap.specs.CrumbMap.{home};
+ghost use Rattle.machine.specs.Images.{inBack};
 ghost use Rattle.machine.specs.Checks.{unsoundFront, unsoundBack, homeInTurn, allInTurn, early, checkSized};
 ghost use Rattle.machine.specs.Calls.{checkOf};
-ghost use Rattle.answers.specs.Answers.{doneOf};
-ghost use Rattle.image.specs.ImageReads.{inBack, Whole};
-ghost use Rattle.validation.specs.Passes.{faultOf, AllRead};
+ghost use Rattle.answers.specs.Answers.{outcomeOf};
+ghost use Rattle.image.specs.Steps.ImageReads.{Whole};
+ghost use Rattle.validation.specs.Steps.Passes.{faultOf, AllRead};
 
 // Whether the bytes are a catalogue.
-pub fn check(image: &[u8]) -> Done
-    ensures { λ r. ⌜ doneOf r ≡ checkOf layout1 (now (image .entry)) ⌝ }
+pub fn check(image: &[u8]) -> Outcome
+    ensures { λ r. ⌜ outcomeOf r ≡ checkOf layout1 (now (image .entry)) ⌝ }
 {
     let Size::Buckets(size) = size_of(image.len()) else {
-        return Done::Refused(Refusal::WrongLength);
+        return Outcome::Refused(Refusal::WrongLength);
     };
     check_sized(image, size)
 }
 
 // An image of a size: any 3 comes before any 8.
-pub fn check_sized(image: &[u8], size: usize) -> Done
+pub fn check_sized(image: &[u8], size: usize) -> Outcome
     requires { ⌜ Whole size (now image) ⌝ }
-    ensures { λ r. ⌜ doneOf r ≡ checkSized layout1 size (now (image .entry)) ⌝ }
+    ensures { λ r. ⌜ outcomeOf r ≡ checkSized layout1 size (now (image .entry)) ⌝ }
 {
     match unsound_front(image, size) {
-        Fault::At(table) => Done::Refused(Refusal::Unsound(table)),
+        Fault::At(table) => Outcome::Refused(Refusal::Unsound(table)),
         Fault::Nowhere => match unsound_back(image, size) {
-            Fault::At(table) => Done::Refused(Refusal::Unsound(table)),
+            Fault::At(table) => Outcome::Refused(Refusal::Unsound(table)),
             Fault::Nowhere => match first_early(image, size) {
-                Fault::At(table) => Done::Refused(Refusal::Early(table)),
-                Fault::Nowhere => Done::Accepted,
+                Fault::At(table) => Outcome::Refused(Refusal::Early(table)),
+                Fault::Nowhere => Outcome::Accepted,
             },
         },
     }
@@ -89,7 +92,7 @@ fn unsound_back(image: &[u8], size: usize) -> Fault
 
 // The first backyard bucket with a member before its turn.
 fn first_early(image: &[u8], size: usize) -> Fault
-    requires { ⌜ AllRead size (now image) ⌝ }
+    requires { ⌜ AllRead layout1 size (now image) ⌝ }
     ensures { λ r. ⌜ r ≡ faultOf (early layout1 size (backyards size) 0 (now (image .entry))) ⌝ }
 {
     let end = size + 7;
@@ -105,17 +108,17 @@ fn first_early(image: &[u8], size: usize) -> Fault
 
 // No member of a backyard bucket stands before its turn.
 fn bucket_in_turn(image: &[u8], size: usize, bucket: Backyard) -> bool
-    requires { ⌜ AllRead size (now image) × (bucket .0 < backyards size) ⌝ }
-    ensures { λ r. ⌜ r ≡ allInTurn layout1 size (bucket .0) (now (image .entry)) (inBack size (bucket .0) (now (image .entry))) ⌝ }
+    requires { ⌜ AllRead layout1 size (now image) × (bucket .0 < backyards size) ⌝ }
+    ensures { λ r. ⌜ r ≡ allInTurn layout1 size (bucket .0) (now (image .entry)) (inBack layout1 size (bucket .0) (now (image .entry))) ⌝ }
 {
-    let mut members = [0u32; 22];
+    let mut members = [0u32; BACK_SLOTS];
     let n = list_back(back_bucket(image, size, bucket), &mut members);
     all_in_turn(image, size, bucket, &members[..n])
 }
 
 // None of these members of a backyard bucket stands before its turn.
 fn all_in_turn(image: &[u8], size: usize, bucket: Backyard, members: &[u32]) -> bool
-    requires { ⌜ AllRead size (now image) × (bucket .0 < backyards size) ⌝ }
+    requires { ⌜ AllRead layout1 size (now image) × (bucket .0 < backyards size) ⌝ }
     ensures { λ r. ⌜ r ≡ allInTurn layout1 size (bucket .0) (now (image .entry)) (now (members .entry)) ⌝ }
 {
     let mut slot = 0;
@@ -130,14 +133,14 @@ fn all_in_turn(image: &[u8], size: usize, bucket: Backyard, members: &[u32]) -> 
 
 // The front bucket of a backyard bucket's member holds 28, none larger than that member.
 fn member_in_turn(image: &[u8], size: usize, bucket: Backyard, member: u32) -> bool
-    requires { ⌜ AllRead size (now image) × (bucket .0 < backyards size) ⌝ }
+    requires { ⌜ AllRead layout1 size (now image) × (bucket .0 < backyards size) ⌝ }
     ensures { λ r. ⌜ r ≡ homeInTurn layout1 (home size (bucket .0) (member % 16)) (member / 16) (now (image .entry)) ⌝ }
 {
     let Home::At(front) = home_of(size, bucket, member % 16) else {
         return false;
     };
     let mine = bucket_of(image, front.0);
-    if count_front(mine) < 28 {
+    if count_front(mine) < FRONT_SLOTS {
         return false;
     }
     largest_front(mine) <= member / 16

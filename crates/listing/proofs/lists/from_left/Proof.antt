@@ -1,4 +1,4 @@
--- `from_left` compares the heads of what is left.
+-- `listing::lists::from_left` meets its contract. It compares the heads of what is left.
 use lib.ListN.{drop-of-length-le}
 use lib.Seq.{drop-cons}
 use borrow.Author.Needs.{needs}
@@ -13,18 +13,6 @@ returns-2 c =
     let a = c .before .before .args in
     rw (drop-of-length-le (a .b .now) (c .if2 .taken), drop-cons (a .a .now) (a .i) 0 (c .before .if1 .left))
 
-mul-result : tie.Need-mul-result
-mul-result c = search needs
-
-shared-slice-read-result : tie.Need-shared-slice-read-result
-shared-slice-read-result c = search needs
-
-mul-result-2 : tie.Need-mul-result-2
-mul-result-2 c = search needs
-
-shared-slice-read-result-2 : tie.Need-shared-slice-read-result-2
-shared-slice-read-result-2 c = search needs
-
 returns-3 : tie.Need-returns-3
 returns-3 c =
     let a = c .before .before .before .before .args in
@@ -36,8 +24,8 @@ from-left-spec =
     (tie.spec
     returns
     returns-2
-    mul-result
-    shared-slice-read-result
-    mul-result-2
-    shared-slice-read-result-2
+    (λ c. search needs)
+    (λ c. search needs)
+    (λ c. search needs)
+    (λ c. search needs)
     returns-3)

@@ -1,87 +1,122 @@
--- What was read says how many: Front(f) alone, or with First(f) and Second(f).
-use borrow.Author.Needs.{needs}
+-- `listing::members::count_members` meets its contract. What was read says how many: Front(f) alone, or with First(f) and Second(f).
+use mathlib.Core.Path.{_≡_, _∙_, ap}
+use mathlib.Core.Bool.{true, false}
 use native.Mathlib.Omega.{arith}
-use Rattle.machine.specs.Machine.{membersAt}
-use Rattle.image.proofs.ImageReadLaws.{front-in, front-read, front-unsound, both-hold, both-unsound}
-use Rattle.listing.proofs.ListingLaws.{held-few, held-full, held-unsound}
-use mathlib.Core.Path.{_≡_}
 use lib.ListN.{length}
-use Rattle.image.specs.ImageReads.{inFront, FrontRead, BothRead}
+use borrow.Author.Needs.{needs}
+use Rattle.crumbmap.specs.Layouts.{layout1}
+use Rattle.machine.specs.Images.{inFront}
+use Rattle.machine.specs.Machine.{membersAt}
+use Rattle.image.specs.Steps.ImageReads.{FrontRead, Reads}
+use Rattle.image.proofs.ImageReadLaws.{front-in, front-read, front-unsound, both-sound, both-unsound, both-read}
+use Rattle.listing.proofs.ListingLaws.{bag-is, bag-read, count-few, count-full, count-unsound}
 use Rattle.listing.proofs.members.count_members.Statement.{statement}
 use Rattle.listing.proofs.members.count_members.Tie as tie
 
--- the front bucket was read, and those behind it
-front : (c : tie.After-known-told)
-    → let s = c .before .before .before .before .before .args in FrontRead (s .front .0) (s .image .now) × (length (inFront (s .front .0) (s .image .now)) ≡ c .before .n .given .0 .0)
-front c = let s = c .before .before .before .before .before .args in let r = front-read (s .front .0) 0 (s .image .now) (c .before .before .before .read-front-at .ensures) (c .before .n .given .1) in (r .0, r .1)
+-- the points of the walk: both bags are counted; b0 and b1 are sound, or one is not; they are read; Front(f) is sound; it is read; the start
+abbrev counted : tie.After-count-bag2 → tie.After-known-told3
+counted c = c .before .before
 
-both : (c : tie.After-enum-told2) → let s = c .before .before .before .before .before .before .before .before .before .args in BothRead (s .size) (s .front .0) (s .image .now)
-both c = let s = c .before .before .before .before .before .before .before .before .before .args in both-hold (s .size) (s .front .0) 0 (s .image .now) (c .before .before .read-behind .ensures) (c .enum-told2 .given .1) .0 .read
+abbrev sound : tie.After-known-told3 → tie.After-read-backyard
+sound c = c .before .before .before
+
+abbrev unsound : tie.After-known-told2 → tie.After-read-backyard
+unsound c = c .before .before .before
+
+abbrev full : tie.After-read-backyard → tie.After-known-told
+full c = c .before .before .before
+
+abbrev read : tie.After-known-told → tie.After-read-front-at
+read c = c .before .before .before
+
+abbrev start : tie.After-read-front-at → tie.Start
+start c = c .before .before
+
+-- Front(f), and b0 and b1, as they were read
+front : (c : tie.After-known-told) → let a = start (read c) .args in
+    FrontRead layout1 (a .front .0) (a .image .now) × (length (inFront layout1 (a .front .0) (a .image .now)) ≡ c .before .n .given .0 .0)
+front c =
+    let a = start (read c) .args in
+    let r = front-read layout1 (a .front .0) 0 (a .image .now) (read c .read-front-at .ensures) (c .before .n .given .1) in
+    (r .0, r .1)
+
+both : (c : tie.After-known-told3) → let a = start (read (full (sound c))) .args in let g = c .before .a .given .0 in
+    Reads layout1 true (a .size) (a .front .0) 0 (a .image .now) (g .0) × Reads layout1 false (a .size) (a .front .0) 0 (a .image .now) (g .1 .0)
+both c =
+    let a = start (read (full (sound c))) .args in
+    both-sound layout1 (a .size) (a .front .0) 0 (a .image .now) (sound c .read-backyard .ensures) (c .before .a .given .1)
 
 read-front-at-requires : tie.Need-read-front-at-requires
 read-front-at-requires c κs = (front-in (c .before .pre), omega arith)
 
-enum-known-n : tie.Need-enum-known-n
-enum-known-n c = search needs
-
-enum-told : tie.Need-enum-told
-enum-told c = search needs
-
 returns : tie.Need-returns
 unfolding membersAt
 returns c =
-    let s = c .before .before .before .before .args in
-    rw (front-unsound (s .front .0) 0 (s .image .now) (c .before .before .read-front-at .ensures) (c .enum-told .given .1))
+    let r = c .before .before in
+    let a = start r .args in
+    rw (front-unsound layout1 (a .front .0) 0 (a .image .now) (r .read-front-at .ensures) (c .enum-told .given .1))
 
 returns-2 : tie.Need-returns-2
 returns-2 c =
-    let s = c .before .before .before .before .before .before in
     let r = front (c .before) in
-    held-few (s .args .size) (s .args .front .0) (s .args .image .now) (s .pre) (r .0) (omega (arith, r .1)) (r .1)
+    let m = count-few (r .0) (start (read (c .before)) .pre) (omega (arith, r .1)) in
+    (m .0, m .1 ∙ r .1)
 
-read-behind-requires : tie.Need-read-behind-requires
-read-behind-requires c κs = search needs
+count-bag-requires : tie.Need-count-bag-requires
+count-bag-requires c κs = let r = both c .0 in bag-read (r .leads) (r .read)
 
-enum-known-table : tie.Need-enum-known-table
-enum-known-table c = search needs
+count-bag-requires-2 : tie.Need-count-bag-requires-2
+count-bag-requires-2 c κs = let r = both (c .before) .1 in bag-read (r .leads) (r .read)
 
-enum-told-2 : tie.Need-enum-told-2
-enum-told-2 c = search needs
+add-near : tie.Need-add-near
+add-near c =
+    let r = front (full (sound (counted c))) in
+    omega (arith, r .0 .list .room, r .1, c .before .count-bag .ensures .1)
 
-count-overflow-requires : tie.Need-count-overflow-requires
-count-overflow-requires c κs = record { within = c .before .before .before .before .before .before .before .before .before .pre; both = both c }
-
-add-t11 : tie.Need-add-t11
-add-t11 c =
-    let r = front (c .before .before .before .before .before) in
-    omega (arith, r .0 .list .room, r .1, c .count-overflow .ensures .1)
+add-all : tie.Need-add-all
+add-all c =
+    let r = front (full (sound (counted c))) in
+    omega (arith, r .0 .list .room, r .1, c .before .count-bag .ensures .1, c .count-bag2 .ensures .1)
 
 returns-3 : tie.Need-returns-3
 returns-3 c =
-    let s = c .before .before .before .before .before .before .before .before .before .before in
-    let r = front (c .before .before .before .before .before) in
-    held-unsound (s .args .size) (s .args .front .0) (s .args .image .now) (r .0) (omega (arith, r .1))
-    (both-unsound (s .args .size) (s .args .front .0) 0 (s .args .image .now) (c .before .before .before .read-behind .ensures) (c .before .table .given .1))
+    let a = start (read (full (unsound c))) .args in
+    let r = front (full (unsound c)) in
+    count-unsound (r .0) (a .size) (omega (arith, r .1))
+    (both-unsound layout1 (a .size) (a .front .0) 0 (a .image .now) (unsound c .read-backyard .ensures) (c .before .table .given .1))
 
 returns-4 : tie.Need-returns-4
 returns-4 c =
-    let s = c .before .before .before .before .before .before .before .before .before .before in
-    let r = front (c .before .before .before .before .before) in
-    held-full (s .args .size) (s .args .front .0) (s .args .image .now) (s .pre) (r .0) (omega (arith, r .1)) (both (c .before)) (r .1) (c .count-overflow .ensures .0)
+    let s = start (read (full (sound (counted c)))) in
+    let r = front (full (sound (counted c))) in
+    let b = both (counted c) in
+    let m = count-full (r .0) (s .pre) (omega (arith, r .1)) (both-read (b .0) (b .1)) in (
+      m .0,
+      omega (
+        arith,
+        m .1,
+        r .1,
+        c .before .count-bag .ensures .0 ∙ ap length (bag-is (b .0 .leads) layout1 (s .args .image .now)),
+        c .count-bag2 .ensures .0 ∙ ap length (bag-is (b .1 .leads) layout1 (s .args .image .now)),
+      ),
+    )
 
 pub count-members-spec : {M : Type 1} → statement M
 count-members-spec =
     tie.close
     (tie.spec
     read-front-at-requires
-    enum-known-n
-    enum-told
+    (λ c. search needs)
+    (λ c. search needs)
     returns
     returns-2
-    read-behind-requires
-    enum-known-table
-    enum-told-2
-    count-overflow-requires
-    add-t11
+    (λ c κs. search needs)
+    (λ c κs. search needs)
+    (λ c. search needs)
+    (λ c. search needs)
+    count-bag-requires
+    count-bag-requires-2
+    add-near
+    add-all
     returns-3
     returns-4)

@@ -1,11 +1,12 @@
--- The loop's invariant: the numbers of the keys passed stand in front of what `out` held. The measure is the keys that are left.
+-- `listing::page::number_all` meets its contract. The loop's invariant: the numbers of the keys passed stand in front of what `out` held. The measure
+-- is the keys that are left.
 use mathlib.Core.Path.{_≡_, refl, _∙_}
 use Prim.Native.Nat.{_-_, _≤_}
 use mathlib.Core.List.{_++_, map}
 use native.Mathlib.Omega.{arith}
 use lib.ListN.{length, take, drop, length-set}
 use borrow.Author.Needs.{needs}
-use Rattle.crumbmap.specs.Layouts.{layout1}
+use Rattle.crumbmap.specs.Layouts.{layout1, keys}
 use Rattle.crumbmap.specs.Fingerprints.{fingerprint}
 use Rattle.listing.proofs.MergedLists.{mapped-on, mapped-all, below-at}
 use Rattle.listing.proofs.page.number_all.Statement.{statement}
@@ -18,45 +19,40 @@ Inv-loop front keys out₀ i₀ out i =
 abbrev μ-loop : tie.MeasureT-loop
 μ-loop front keys out₀ i₀ out i = length keys - i
 
+-- the points of the walk: a key is numbered; its turn; the start
+abbrev turn : tie.After-number-of Inv-loop μ-loop → tie.At-loop Inv-loop μ-loop
+turn c = c .before .before .before
+
+abbrev start : tie.At-loop Inv-loop μ-loop → tie.Start Inv-loop μ-loop
+start c = c .before .before .before
+
 loop-holds : tie.Need-loop-holds Inv-loop μ-loop
 loop-holds c = (omega arith, refl, refl)
 
-mul-number-of : tie.Need-mul-number-of Inv-loop μ-loop
-mul-number-of c = search needs
-
-shared-slice-read-number-of : tie.Need-shared-slice-read-number-of Inv-loop μ-loop
-shared-slice-read-number-of c = omega arith
-
 number-of-requires : tie.Need-number-of-requires Inv-loop μ-loop
-number-of-requires c κs = let p = c .before .before .before .before .before .pre in (p .0, below-at 2359296 (c .before .before .before .before .before .args .keys .now) (c .before .before .loop .i) (p .1) (omega arith))
-
-mul-out : tie.Need-mul-out Inv-loop μ-loop
-mul-out c = search needs
-
-slice-write-out : tie.Need-slice-write-out Inv-loop μ-loop
-slice-write-out c = omega arith
-
-add-i : tie.Need-add-i Inv-loop μ-loop
-add-i c = omega arith
-
-loop-less : tie.Need-loop-less Inv-loop μ-loop
-loop-less c = omega arith
+number-of-requires c κs =
+    let t = c .before .before in
+    let s = start t in
+    (s .pre .0, below-at (keys layout1) (s .args .keys .now) (t .loop .i) (s .pre .1) (omega arith))
 
 loop-again : tie.Need-loop-again Inv-loop μ-loop
 loop-again c =
-    let s = c .before .before .before .loop in
-    let a = c .before .before .before .before .before .before in
-    let on = mapped-on (fingerprint layout1 (a .args .front .0)) (a .args .keys .now) (a .args .out .now) (s .out) (s .i) in
-    (omega arith, length-set (s .out) (s .i) (c .number-of .result) ∙ s .inv .1, rw (c .number-of .ensures) (on (omega arith) (a .pre .2) (s .inv .2)))
+    let l = turn c .loop in
+    let s = start (turn c) in
+    let on = mapped-on (fingerprint layout1 (s .args .front .0)) (s .args .keys .now) (s .args .out .now) (l .out) (l .i) in (
+      omega arith,
+      length-set (l .out) (l .i) (c .number-of .result) ∙ l .inv .1,
+      rw (c .number-of .ensures) (on (omega arith) (s .pre .2) (l .inv .2)),
+    )
 
 same-length : tie.Need-same-length Inv-loop μ-loop
 same-length c = c .before .loop .inv .1
 
 returns : tie.Need-returns Inv-loop μ-loop
 returns c =
-    let s = c .before .loop in
-    let a = c .before .before .before .before .args in
-    mapped-all (fingerprint layout1 (a .front .0)) (a .keys .now) (a .out .now) (s .out) (s .i) (omega arith) (s .inv .2)
+    let l = c .before .loop in
+    let a = start (c .before) .args in
+    mapped-all (fingerprint layout1 (a .front .0)) (a .keys .now) (a .out .now) (l .out) (l .i) (omega arith) (l .inv .2)
 
 pub number-all-spec : {M : Type 1} → statement M
 number-all-spec =
@@ -65,13 +61,13 @@ number-all-spec =
     Inv-loop
     μ-loop
     loop-holds
-    mul-number-of
-    shared-slice-read-number-of
+    (λ c. search needs)
+    (λ c. omega arith)
     number-of-requires
-    mul-out
-    slice-write-out
-    add-i
-    loop-less
+    (λ c. search needs)
+    (λ c. omega arith)
+    (λ c. omega arith)
+    (λ c. omega arith)
     loop-again
     same-length
     returns)

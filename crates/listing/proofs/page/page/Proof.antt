@@ -1,73 +1,72 @@
--- A size or number 1; 6 past the end; else the page of an image of that size.
-use borrow.Author.Needs.{needs}
+-- `listing::page::page` meets its contract. A size or number 1; 6 past the end; else the page of an image of that size.
 use mathlib.Core.Path.{refl, _≡_}
+use mathlib.Core.Option.{some}
 use native.Mathlib.Omega.{arith}
 use lib.ListN.{length}
+use borrow.Author.Needs.{needs}
 use borrow.Author.Tests.{lt-ltb}
 use Rattle.crumbmap.specs.Layouts.{fronts}
 use Rattle.machine.specs.Images.{sizeOf}
 use Rattle.machine.specs.Pages.{pageFrom}
 use Rattle.machine.specs.Calls.{pageOf}
-use Rattle.machine.proofs.ImageLaws.{sizeOf-some}
-use Rattle.image.proofs.ImageReadLaws.{size-some, size-none}
-use mathlib.Core.Option.{some}
+use Rattle.image.proofs.ImageReadLaws.{size-some, size-none, whole-of}
 use Rattle.listing.proofs.page.page.Statement.{statement}
 use Rattle.listing.proofs.page.page.Tie as tie
 
-size-of-requires : tie.Need-size-of-requires
-size-of-requires c κs = search needs
+-- the points of the walk: the page is written; its bucket is not past the end; a size is found; the start
+abbrev wrote : tie.After-slice-known2 → tie.After-page-from
+wrote c = c .before .before
 
-enum-known-size : tie.Need-enum-known-size
-enum-known-size c = search needs
+abbrev within : tie.After-page-from → tie.Else1
+within c = c .before .before
 
-enum-told : tie.Need-enum-told
-enum-told c = search needs
+abbrev found : tie.After-known-told → tie.After-size-of
+found c = c .before .before .before
+
+abbrev start : tie.After-size-of → tie.Start
+start c = c .before .before .before
+
+-- the size that was found
+sized : (c : tie.After-known-told) → sizeOf (length (start (found c) .args .image .now)) ≡ some (c .before .size .given .0 .0)
+sized c = size-some (sizeOf (length (start (found c) .args .image .now))) (found c .size-of .ensures) (c .before .size .given .1)
 
 returns : tie.Need-returns
 unfolding pageOf
 returns c =
-    let s = c .before .before .before .before .before .args in
-    rw (size-none (sizeOf (length (s .image .now))) (c .before .before .size-of .ensures) (c .enum-told .given .1)) (record { answer = refl; bytes = refl })
-
--- the size that was found
-found : (c : tie.After-known-told) → sizeOf (length (c .before .before .before .before .before .before .args .image .now)) ≡ some (c .before .size .given .0 .0)
-found c = size-some (sizeOf (length (c .before .before .before .before .before .before .args .image .now))) (c .before .before .before .size-of .ensures) (c .before .size .given .1)
+    let f = c .before .before in
+    rw (size-none (sizeOf (length (start f .args .image .now))) (f .size-of .ensures) (c .enum-told .given .1))
+    (record { answer = refl; bytes = refl })
 
 mul-if1 : tie.Need-mul-if1
-mul-if1 c =
-    let s = c .before .before .before .before .before .before .args in omega (arith, sizeOf-some (length (s .image .now)) (c .before .size .given .0 .0) (found c) .2)
+mul-if1 c = omega (arith, whole-of (start (found c) .args .image .now) (sized c) .small)
 
 returns-2 : tie.Need-returns-2
 unfolding pageOf pageFrom fronts
 returns-2 c =
     let told = c .before in
-    let s = told .before .before .before .before .before .before .args in
-    rw (found told, lt-ltb (fronts (told .before .size .given .0 .0)) (s .start) (c .if1 .taken)) (record { answer = refl; bytes = refl })
+    rw (sized told, lt-ltb (fronts (told .before .size .given .0 .0)) (start (found told) .args .start) (c .if1 .taken))
+    (record { answer = refl; bytes = refl })
 
 page-from-requires : tie.Need-page-from-requires
 unfolding fronts
 page-from-requires c κs =
     let told = c .before .before in
-    let s = sizeOf-some (length (c .before .before .before .before .before .before .before .before .args .image .now)) (told .before .size .given .0 .0) (found told) in
-    (record { long = s .0; small = s .2 }, omega arith)
-
-same-length : tie.Need-same-length
-same-length c = search needs
+    (whole-of (start (found told) .args .image .now) (sized told), omega arith)
 
 returns-3 : tie.Need-returns-3
 unfolding pageOf
-returns-3 c = rw (found (c .before .before .before .before .before)) (c .before .before .page-from .ensures)
+returns-3 c = rw (sized (within (wrote c) .before)) (wrote c .page-from .ensures)
 
 pub page-spec : {M : Type 1} → statement M
 page-spec =
     tie.close
     (tie.spec
-    size-of-requires
-    enum-known-size
-    enum-told
+    (λ c κs. search needs)
+    (λ c. search needs)
+    (λ c. search needs)
     returns
     mul-if1
     returns-2
     page-from-requires
-    same-length
+    (λ c. search needs)
     returns-3)

@@ -1,70 +1,74 @@
--- Each ending of a page, by what measuring said.
-use borrow.Author.Needs.{needs}
+-- `listing::page::page_from` meets its contract. Each ending of a page, by what measuring said.
 use mathlib.Core.Logic.{⊎-elim}
 use native.Mathlib.Omega.{arith}
 use lib.ListN.{length}
-use Rattle.crumbmap.specs.Layouts.{fronts}
-use Rattle.listing.proofs.PageSteps.{reach-next, reach-unsound, moves, page-unsound, page-no-room, page-written}
-use Rattle.listing.specs.Listings.{Ran}
+use borrow.Author.Needs.{needs}
+use Rattle.crumbmap.specs.Layouts.{layout1, fronts}
+use Rattle.listing.specs.Steps.Listings.{Ran}
+use Rattle.listing.proofs.PageSteps.{end-next, end-unsound, moves, page-unsound, page-no-room, page-written}
 use Rattle.listing.proofs.page.page_from.Statement.{statement}
 use Rattle.listing.proofs.page.page_from.Tie as tie
 
-measure-requires : tie.Need-measure-requires
-measure-requires c κs = search needs
+-- the points of the walk: the run is written; it moves on, or begins at the end; it is known how far it goes; it is measured; the start
+abbrev wrote : tie.After-slice-known2 → tie.After-write-run
+wrote c = c .before .before
 
-enum-known-table : tie.Need-enum-known-table
-enum-known-table c = search needs
+abbrev moved : tie.After-write-run → tie.Joined1
+moved c = c .before .before
 
-enum-known-next : tie.Need-enum-known-next
-enum-known-next c = search needs
+abbrev measured : tie.After-known-told2 → tie.After-measure
+measured c = c .before .before .before
 
-mul-if2 : tie.Need-mul-if2
-mul-if2 c = search needs
+abbrev start : tie.After-measure → tie.Start
+start c = c .before .before .before
 
 -- the run that was measured
-ran : (c : tie.After-known-told2)
-    → let s = c .before .before .before .before .before .before in Ran (s .args .size) (s .args .start) (length (s .args .out .now)) (s .args .image .now) (c .before .next .given .0 .0)
+ran : (c : tie.After-known-told2) → let a = start (measured c) .args in
+    Ran layout1 (a .size) (a .start) (length (a .out .now)) (a .image .now) (c .before .next .given .0 .0)
 ran c =
-    let s = c .before .before .before .before .before .before in
-    reach-next (s .args .size) (s .args .start) (length (s .args .out .now)) (s .args .image .now) (c .before .before .before .measure .ensures) (c .before .next .given .1)
+    let a = start (measured c) .args in
+    end-next layout1 (a .size) (a .start) (length (a .out .now)) (a .image .now) (measured c .measure .ensures) (c .before .next .given .1)
 
 returns : tie.Need-returns
 unfolding fronts
 returns c =
-    let s = c .before .before .before .before .before .before .before .before in
-    page-no-room (s .args .size) (s .args .start) (s .args .image .now) (s .args .out .now) (s .pre .1) (ran (c .before .before)) (omega (arith, c .before .if1 .taken)) (omega arith)
+    let told = c .before .before in
+    let s = start (measured told) in
+    page-no-room layout1 (s .args .size) (s .args .start) (s .args .image .now) (s .args .out .now) (s .pre .1) (ran told)
+    (omega (arith, c .before .if1 .taken)) (omega arith)
 
 write-run-requires : tie.Need-write-run-requires
 write-run-requires c κs = ran (c .before .before)
 
 returns-2 : tie.Need-returns-2
 returns-2 c =
-    let s = c .before .before .before .before .before .before in
-    page-unsound (s .args .size) (s .args .start) (s .args .image .now) (s .args .out .now) (s .pre .1)
-    (reach-unsound (s .args .size) (s .args .start) (length (s .args .out .now)) (s .args .image .now) (c .before .before .before .measure .ensures) (c .before .table .given .1))
-
-same-length : tie.Need-same-length
-same-length c = search needs
+    let m = c .before .before .before in
+    let s = start m in
+    page-unsound layout1 (s .args .size) (s .args .start) (s .args .image .now) (s .args .out .now) (s .pre .1)
+    (end-unsound layout1 (s .args .size) (s .args .start) (length (s .args .out .now)) (s .args .image .now) (m .measure .ensures)
+    (c .before .table .given .1))
 
 returns-3 : tie.Need-returns-3
 unfolding fronts
 returns-3 c =
-    let told = c .before .before .before .before .before in
-    let s = told .before .before .before .before .before .before in
+    let j = moved (wrote c) in
+    let told = j .before in
+    let s = start (measured told) in
     let on = moves (told .before .next .given .0 .0) (s .args .start) (fronts (s .args .size))
-    (λ e d. ⊎-elim (λ w. omega arith) (λ w. omega arith) (c .before .before .before .before .if1 .came)) in
-    page-written (s .args .size) (s .args .start) (s .args .image .now) (s .args .out .now) (s .pre .1) (ran told) on (c .before .before .write-run .ensures)
+    (λ e d. ⊎-elim (λ w. omega arith) (λ w. omega arith) (j .if1 .came)) in
+    page-written layout1 (s .args .size) (s .args .start) (s .args .image .now) (s .args .out .now) (s .pre .1) (ran told) on
+    (wrote c .write-run .ensures)
 
 pub page-from-spec : {M : Type 1} → statement M
 page-from-spec =
     tie.close
     (tie.spec
-    measure-requires
-    enum-known-table
-    enum-known-next
-    mul-if2
+    (λ c κs. search needs)
+    (λ c. search needs)
+    (λ c. search needs)
+    (λ c. search needs)
     returns
     write-run-requires
     returns-2
-    same-length
+    (λ c. search needs)
     returns-3)

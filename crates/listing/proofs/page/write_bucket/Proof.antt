@@ -1,4 +1,4 @@
--- The members that were listed, each turned into its number.
+-- `listing::page::write_bucket` meets its contract. The members that were listed, each turned into its number.
 use borrow.Author.Needs.{needs}
 use Rattle.crumbmap.specs.Layouts.{layout1}
 use Rattle.crumbmap.specs.Fingerprints.{fingerprint}
@@ -7,11 +7,18 @@ use Rattle.listing.proofs.ListingLaws.{members-range, front-small}
 use Rattle.listing.proofs.page.write_bucket.Statement.{statement}
 use Rattle.listing.proofs.page.write_bucket.Tie as tie
 
-slice-aggregate-list-members : tie.Need-slice-aggregate-list-members
-slice-aggregate-list-members c = search needs
+-- the points of the walk: the members are numbered; they are lent; they are listed; the start
+abbrev numbered : tie.After-slice-known2 → tie.After-number-all
+numbered c = c .before .before
 
-list-members-requires : tie.Need-list-members-requires
-list-members-requires c κs = search needs
+abbrev lent : tie.After-number-all → tie.After-number-all-arg
+lent c = c .before
+
+abbrev listed : tie.After-number-all-arg → tie.After-list-members
+listed c = c .before .before .before
+
+abbrev start : tie.After-list-members → tie.Start
+start c = c .before .before .before .before
 
 array-share-prefix-keys : tie.Need-array-share-prefix-keys
 array-share-prefix-keys c = listed-fits (c .before .list-members .ensures)
@@ -21,26 +28,23 @@ slice-aggregate-number-all c = listed-length (c .before .before .list-members .e
 
 number-all-requires : tie.Need-number-all-requires
 number-all-requires c κs =
-    let s = c .before .before .before .before .before .before .before in
-    rw (listed-take (c .before .before .before .list-members .ensures))
-    (front-small (s .pre .0 .within), members-range (s .args .size) (s .args .front .0) (s .args .image .now) (s .pre .0), s .pre .1)
-
-same-length : tie.Need-same-length
-same-length c = search needs
+    let l = listed c in
+    let p = start l .pre in
+    rw (listed-take (l .list-members .ensures)) (front-small (p .0 .within), members-range (p .0), p .1)
 
 returns : tie.Need-returns
 returns c =
-    let g = fingerprint layout1 (c .before .before .before .before .before .before .before .before .before .before .args .front .0) in
-    listed-mapped (c .before .before .before .before .before .before .list-members .ensures) g (c .before .before .number-all .ensures)
+    let l = listed (lent (numbered c)) in
+    listed-mapped (l .list-members .ensures) (fingerprint layout1 (start l .args .front .0)) (numbered c .number-all .ensures)
 
 pub write-bucket-spec : {M : Type 1} → statement M
 write-bucket-spec =
     tie.close
     (tie.spec
-    slice-aggregate-list-members
-    list-members-requires
+    (λ c. search needs)
+    (λ c κs. search needs)
     array-share-prefix-keys
     slice-aggregate-number-all
     number-all-requires
-    same-length
+    (λ c. search needs)
     returns)

@@ -1,77 +1,72 @@
--- The loop's invariant: the entries of the buckets passed stand in front of what `out` held. The measure is the buckets that are left.
-use mathlib.Core.Path.{_≡_, refl}
-use Prim.Native.Nat.{_-_, _≤_, _+_}
+-- `listing::page::write_run` meets its contract. The loop's invariant: the entries of the buckets passed stand in front of what `out` held
+-- (`Written`). The measure is the buckets that are left.
+use mathlib.Core.Path.{_≡_}
+use Prim.Native.Nat.{_-_, _+_}
 use native.Mathlib.Omega.{arith}
 use lib.ListN.{length}
 use borrow.Author.Needs.{needs}
-use Rattle.image.specs.Listed.{Listed}
-use Rattle.listing.specs.Listings.{entriesIn}
-use Rattle.listing.proofs.PageSteps.{listed-none, bucket-room, bucket-written}
 use borrow.Rule.Slice.PartMut.{putMid}
+use Rattle.crumbmap.specs.Layouts.{layout1}
+use Rattle.listing.proofs.PageSteps.{Written, written-start, bucket-room, bucket-written}
 use Rattle.listing.proofs.page.write_run.Statement.{statement}
 use Rattle.listing.proofs.page.write_run.Tie as tie
 
 abbrev Inv-loop : tie.InvT-loop
-Inv-loop image size start next out₀ f₀ n₀ out f n =
-    (start ≤ f) × (f ≤ next) × (n ≤ length out₀) × (length out ≡ length out₀) × Listed (entriesIn size (f - start) start image) out₀ n out
+Inv-loop image size start next out₀ f₀ n₀ out f n = Written layout1 size start next image out₀ out f n
 
 abbrev μ-loop : tie.MeasureT-loop
 μ-loop image size start next out₀ f₀ n₀ out f n = next - f
 
+-- the points of the walk: bucket f is written; its turn; the start
+abbrev wrote : tie.After-slice-known2 Inv-loop μ-loop → tie.After-write-bucket Inv-loop μ-loop
+wrote c = c .before .before
+
+abbrev turn : tie.After-write-bucket Inv-loop μ-loop → tie.At-loop Inv-loop μ-loop
+turn c = c .before .before .before
+
+abbrev start : tie.At-loop Inv-loop μ-loop → tie.Start Inv-loop μ-loop
+start c = c .before .before .before
+
+-- one bucket more
+written : (c : tie.After-slice-known2 Inv-loop μ-loop) →
+    let a = start (turn (wrote c)) .args in let l = turn (wrote c) .loop in let w = wrote c .write-bucket in
+    Written layout1 (a .size) (a .start) (a .next) (a .image .now) (a .out .now)
+    (putMid (l .n) (length (l .out) - l .n) (l .out) (w .last .1 .1 .1 .0)) (l .f + 1) (l .n + w .result)
+written c =
+    let t = turn (wrote c) in
+    bucket-written (start t .pre) (t .loop .inv) (omega arith) (wrote c .write-bucket .ensures)
+
 loop-holds : tie.Need-loop-holds Inv-loop μ-loop
 loop-holds c =
     let s = c .before .before in
-    let l = listed-none (s .args .size) (s .args .start) (s .args .image .now) (s .args .out .now) in
-    (omega arith, s .pre .from, omega arith, refl, l)
-
-mul-write-bucket : tie.Need-mul-write-bucket Inv-loop μ-loop
-mul-write-bucket c = search needs
+    written-start layout1 (s .args .size) (s .args .start) (s .args .next) (s .args .image .now) (s .args .out .now) (s .pre .from)
 
 sub-write-bucket : tie.Need-sub-write-bucket Inv-loop μ-loop
-sub-write-bucket c = search needs
+sub-write-bucket c = let w = c .before .loop .inv in omega (arith, w .few, w .same)
 
 part-write-bucket-start : tie.Need-part-write-bucket-start Inv-loop μ-loop
-part-write-bucket-start c = search needs
-
-part-write-bucket-end : tie.Need-part-write-bucket-end Inv-loop μ-loop
-part-write-bucket-end c = search needs
+part-write-bucket-start c = let w = c .before .loop .inv in omega (arith, w .few, w .same)
 
 write-bucket-requires : tie.Need-write-bucket-requires Inv-loop μ-loop
 write-bucket-requires c κs =
-    let s = c .before .before .before .before .before in
-    let l = c .before .before .loop in
-    (s .pre .sound (l .f) (l .inv .0) (omega arith), bucket-room (s .pre) (l .inv .0) (omega arith) (l .inv .4) (l .inv .3))
-
--- one bucket more
-written : (c : tie.After-slice-known2 Inv-loop μ-loop)
-    → let s = c .before .before .before .before .before .before .before .before .args in let l = c .before .before .before .before .before .loop in let w = c .before .before .write-bucket in
-    let now = putMid (l .n) (length (l .out) - l .n) (l .out) (w .last .1 .1 .1 .0) in
-    (l .n + w .result ≤ length (s .out .now)) × (length now ≡ length (s .out .now))
-    × Listed (entriesIn (s .size) (l .f + 1 - s .start) (s .start) (s .image .now)) (s .out .now) (l .n + w .result) now
-written c =
-    let l = c .before .before .before .before .before .loop in
-    bucket-written (c .before .before .before .before .before .before .before .before .pre) (l .inv .0) (omega arith) (l .inv .4) (l .inv .3) (c .before .before .write-bucket .ensures)
+    let t = c .before .before in
+    let p = start t .pre in
+    (p .sound (t .loop .f) (t .loop .inv .from) (omega arith), bucket-room p (t .loop .inv) (omega arith))
 
 add-n : tie.Need-add-n Inv-loop μ-loop
-add-n c = omega (arith, written c .0)
-
-add-f : tie.Need-add-f Inv-loop μ-loop
-add-f c = omega arith
-
-loop-less : tie.Need-loop-less Inv-loop μ-loop
-loop-less c = omega arith
+add-n c = omega (arith, written c .few)
 
 loop-again : tie.Need-loop-again Inv-loop μ-loop
-loop-again c = let w = written c in (omega arith, omega arith, w .0, w .1, w .2)
+loop-again c = written c
 
 same-length : tie.Need-same-length Inv-loop μ-loop
-same-length c = c .before .loop .inv .3
+same-length c = c .before .loop .inv .same
 
 returns : tie.Need-returns Inv-loop μ-loop
 returns c =
-    let l = c .before .loop in
-    let e : l .f ≡ c .before .before .before .before .args .next = omega arith in
-    rw e at (l .inv .4)
+    let w = c .before .loop .inv in
+    let e : c .before .loop .f ≡ start (c .before) .args .next = omega (arith, w .upto) in
+    rw e at (w .entries)
 
 pub write-run-spec : {M : Type 1} → statement M
 write-run-spec =
@@ -80,14 +75,14 @@ write-run-spec =
     Inv-loop
     μ-loop
     loop-holds
-    mul-write-bucket
+    (λ c. search needs)
     sub-write-bucket
     part-write-bucket-start
-    part-write-bucket-end
+    (λ c. search needs)
     write-bucket-requires
     add-n
-    add-f
-    loop-less
+    (λ c. omega arith)
+    (λ c. omega arith)
     loop-again
     same-length
     returns)

@@ -8,38 +8,34 @@ use Rattle.image.proofs.ImageReadLaws.{located, mislaid, placed}
 use Rattle.lookup.proofs.ask.ask.Statement.{statement}
 use Rattle.lookup.proofs.ask.ask.Tie as tie
 
-locate-requires : tie.Need-locate-requires
-locate-requires c κs = search needs
+-- the points of the walk: the hash's target is known; it is sought; the start
+abbrev known : tie.After-known-told → tie.After-locate
+known c = c .before .before .before
 
-enum-known-target : tie.Need-enum-known-target
-enum-known-target c = search needs
-
-enum-told : tie.Need-enum-told
-enum-told c = search needs
+abbrev start : tie.After-locate → tie.Start
+start c = c .before .before
 
 returns : tie.Need-returns
 unfolding askOf
 returns c =
-    let s = c .before .before .before .before in
-    let img = s .args .image .now in
-    mislaid img (s .args .hash) (λ B f x. askAt layout1 B f x img) (c .before .before .locate .ensures) (c .enum-told .given .1)
+    let l = c .before .before in
+    let a = start l .args in
+    mislaid layout1 (a .image .now) (a .hash) (l .locate .ensures) (λ B f x. askAt layout1 B f x (a .image .now)) (c .enum-told .given .1)
 
-ask-front-requires : tie.Need-ask-front-requires
-ask-front-requires c κs =
-    let c3 = c .before .before .before in
-    let s = c3 .before .before in
-    placed (s .args .image .now) (s .args .hash) (c3 .locate .ensures) (c .before .target .given .1)
+ask-at-requires : tie.Need-ask-at-requires
+ask-at-requires c κs =
+    let a = start (known c) .args in
+    placed layout1 (a .image .now) (a .hash) (known c .locate .ensures) (c .before .target .given .1)
 
 returns-2 : tie.Need-returns-2
 unfolding askOf
 returns-2 c =
-    let c4 = c .before .before .before .before in
-    let s = c4 .before .before in
-    let img = s .args .image .now in
-    c .ask-front .ensures
-    ∙ located img (s .args .hash) (λ B f x. askAt layout1 B f x img) (c4 .locate .ensures) (c .before .before .target .given .1)
+    let l = known (c .before) in
+    let a = start l .args in
+    c .ask-at .ensures
+    ∙ located layout1 (a .image .now) (a .hash) (l .locate .ensures) (λ B f x. askAt layout1 B f x (a .image .now)) (c .before .before .target .given .1)
 
 pub ask-spec : {M : Type 1} → statement M
 ask-spec =
     tie.close
-    (tie.spec locate-requires enum-known-target enum-told returns ask-front-requires returns-2)
+    (tie.spec (λ c κs. search needs) (λ c. search needs) (λ c. search needs) returns ask-at-requires returns-2)

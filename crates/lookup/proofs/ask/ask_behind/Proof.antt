@@ -1,125 +1,90 @@
 -- `lookup::ask::ask_behind` meets its contract. What seeking in b0 and then in b1 finds settles the ask (`ask-first`, `ask-second`).
-use mathlib.Core.Path.{_∙_}
+use mathlib.Core.Path.{_≡_, _∙_}
 use borrow.Author.Needs.{needs}
+use Rattle.crumbmap.specs.Layouts.{layout1}
+use Rattle.machine.specs.Machine.{askAt, asked, nowhere, first, second}
 use Rattle.image.proofs.ImageReadLaws.{back-in}
-use Rattle.lookup.proofs.AskSteps.{ask-first, ask-second}
+use Rattle.lookup.specs.declared.Sought.{Sought}
+use Rattle.lookup.proofs.AskSteps.{sought, secondly, ask-first, ask-second}
 use Rattle.lookup.proofs.ask.ask_behind.Statement.{statement}
 use Rattle.lookup.proofs.ask.ask_behind.Tie as tie
 
-first-of-requires : tie.Need-first-of-requires
-first-of-requires c κs = search needs
+-- the points of the walk: b1 was sought in, and where it is; it is not in b0, which was sought in, and where that is; the start
+abbrev way2 : tie.After-seek2 → tie.After-second-of
+way2 c = c .before
+
+abbrev absent : tie.After-second-of → tie.After-enum-told
+absent c = c .before
+
+abbrev sought1 : tie.After-enum-told → tie.After-seek
+sought1 c = c .before .before
+
+abbrev way1 : tie.After-seek → tie.After-first-of
+way1 c = c .before
+
+abbrev start : tie.After-first-of → tie.Start
+start c = c .before .before .before
+
+-- the ask by what was found in b0, and by what was found in b1
+in-first : (c : tie.After-seek) {r : Sought} → c .seek .result ≡ r → let a = start (way1 c) .args in let t = a .target in
+    sought (λ i. asked 2 (first i)) (secondly layout1 (t .size) (t .front .0) (t .key) (a .image .now)) r
+    ≡ askAt layout1 (t .size) (t .front .0) (t .key) (a .image .now)
+in-first c e =
+    let s = start (way1 c) in
+    let t = s .args .target in
+    ask-first layout1 (t .size) (t .front .0) (t .key) (s .args .image .now) (c .seek .ensures) e (s .pre .1) (way1 c .first-of .ensures)
+
+in-second : (c : tie.After-seek2) {r : Sought} → c .seek2 .result ≡ r → let a = start (way1 (sought1 (absent (way2 c)))) .args in let t = a .target in
+    sought (λ i. asked 3 (second i)) (asked 3 nowhere) r ≡ askAt layout1 (t .size) (t .front .0) (t .key) (a .image .now)
+in-second c e =
+    let o = absent (way2 c) in
+    let a = start (way1 (sought1 o)) .args in
+    let t = a .target in
+    ask-second layout1 (t .size) (t .front .0) (t .key) (a .image .now) (c .seek2 .ensures) e (way2 c .second-of .ensures)
+    ∙ in-first (sought1 o) (o .enum-told .given .1)
 
 seek-requires : tie.Need-seek-requires
 seek-requires c κs =
-    let c3 = c .before .before .before in
+    let p = start c .pre .0 in
     let l = c .first-of .ensures in
-    (back-in (c3 .pre .0 .within .whole) (l .inside), l .small, c3 .pre .0 .key)
-
-enum-known-table : tie.Need-enum-known-table
-enum-known-table c = search needs
-
-enum-known-slot : tie.Need-enum-known-slot
-enum-known-slot c = search needs
-
-enum-told : tie.Need-enum-told
-enum-told c = search needs
-
-second-of-requires : tie.Need-second-of-requires
-second-of-requires c κs = search needs
+    (back-in (p .within .whole) (l .inside), l .small, p .key)
 
 seek-requires-2 : tie.Need-seek-requires-2
 seek-requires-2 c κs =
-    let c7 = c .before .before .before .before .before .before .before in
+    let p = start (way1 (sought1 (absent c))) .pre .0 in
     let l = c .second-of .ensures in
-    (back-in (c7 .pre .0 .within .whole) (l .inside), l .small, c7 .pre .0 .key)
-
-enum-known-table-2 : tie.Need-enum-known-table-2
-enum-known-table-2 c = search needs
-
-enum-known-slot-2 : tie.Need-enum-known-slot-2
-enum-known-slot-2 c = search needs
-
-enum-told-2 : tie.Need-enum-told-2
-enum-told-2 c = search needs
-
-none-in-requires : tie.Need-none-in-requires
-none-in-requires c κs = search needs
+    (back-in (p .within .whole) (l .inside), l .small, p .key)
 
 returns : tie.Need-returns
-returns c =
-    let c3 = c .before .before .before in
-    let c4 = c3 .before in
-    let c7 = c4 .before .before .before in
-    let a = c7 .args .target in
-    rw (c .before .table .given .1) at
-    (ask-first (a .size) (a .front .0) (a .key) (c7 .args .image .now) (c3 .seek .ensures) (c7 .pre .1) (c4 .first-of .ensures))
+returns c = in-first (c .before .before .before) (c .before .table .given .1)
 
 returns-2 : tie.Need-returns-2
-returns-2 c =
-    let c3 = c .before .before .before in
-    let c4 = c3 .before in
-    let c7 = c4 .before .before .before in
-    let a = c7 .args .target in
-    rw (c .before .slot .given .1) at
-    (ask-first (a .size) (a .front .0) (a .key) (c7 .args .image .now) (c3 .seek .ensures) (c7 .pre .1) (c4 .first-of .ensures))
+returns-2 c = in-first (c .before .before .before) (c .before .slot .given .1)
 
 returns-3 : tie.Need-returns-3
-returns-3 c =
-    let c3 = c .before .before .before in
-    let c4 = c3 .before in
-    let c5 = c4 .before in
-    let c7 = c5 .before .before in
-    let c8 = c7 .before in
-    let c11 = c8 .before .before .before in
-    let a = c11 .args .target in
-    rw (c .before .table2 .given .1) at
-    (ask-second (a .size) (a .front .0) (a .key) (c11 .args .image .now) (c3 .seek2 .ensures) (c4 .second-of .ensures))
-    ∙ rw (c5 .enum-told .given .1) at
-    (ask-first (a .size) (a .front .0) (a .key) (c11 .args .image .now) (c7 .seek .ensures) (c11 .pre .1) (c8 .first-of .ensures))
+returns-3 c = in-second (c .before .before .before) (c .before .table2 .given .1)
 
 returns-4 : tie.Need-returns-4
-returns-4 c =
-    let c3 = c .before .before .before in
-    let c4 = c3 .before in
-    let c5 = c4 .before in
-    let c7 = c5 .before .before in
-    let c8 = c7 .before in
-    let c11 = c8 .before .before .before in
-    let a = c11 .args .target in
-    rw (c .before .slot2 .given .1) at
-    (ask-second (a .size) (a .front .0) (a .key) (c11 .args .image .now) (c3 .seek2 .ensures) (c4 .second-of .ensures))
-    ∙ rw (c5 .enum-told .given .1) at
-    (ask-first (a .size) (a .front .0) (a .key) (c11 .args .image .now) (c7 .seek .ensures) (c11 .pre .1) (c8 .first-of .ensures))
+returns-4 c = in-second (c .before .before .before) (c .before .slot2 .given .1)
 
 returns-5 : tie.Need-returns-5
-returns-5 c =
-    let c3 = c .before .before .before in
-    let c4 = c3 .before in
-    let c5 = c4 .before in
-    let c7 = c5 .before .before in
-    let c8 = c7 .before in
-    let c11 = c8 .before .before .before in
-    let a = c11 .args .target in
-    c .none-in .ensures ∙ rw (c .before .enum-told2 .given .1) at
-    (ask-second (a .size) (a .front .0) (a .key) (c11 .args .image .now) (c3 .seek2 .ensures) (c4 .second-of .ensures))
-    ∙ rw (c5 .enum-told .given .1) at
-    (ask-first (a .size) (a .front .0) (a .key) (c11 .args .image .now) (c7 .seek .ensures) (c11 .pre .1) (c8 .first-of .ensures))
+returns-5 c = c .none-in .ensures ∙ in-second (c .before .before .before) (c .before .enum-told2 .given .1)
 
 pub ask-behind-spec : {M : Type 1} → statement M
 ask-behind-spec =
     tie.close
     (tie.spec
-    first-of-requires
+    (λ c κs. search needs)
     seek-requires
-    enum-known-table
-    enum-known-slot
-    enum-told
-    second-of-requires
+    (λ c. search needs)
+    (λ c. search needs)
+    (λ c. search needs)
+    (λ c κs. search needs)
     seek-requires-2
-    enum-known-table-2
-    enum-known-slot-2
-    enum-told-2
-    none-in-requires
+    (λ c. search needs)
+    (λ c. search needs)
+    (λ c. search needs)
+    (λ c κs. search needs)
     returns
     returns-2
     returns-3

@@ -4,93 +4,86 @@ use Prim.Native.Nat.{_+_, _*_}
 use native.Mathlib.Omega.{arith}
 use borrow.Author.Needs.{needs}
 use Rattle.multiset.specs.Multisets.{below, copies}
-use Rattle.multiset.proofs.MultisetLaws.{slotOf-some, slotOf-none}
-use Rattle.image.specs.ImageReads.{inBack, BackRead}
+use Rattle.multiset.proofs.RankLaws.{slotOf-some, slotOf-none}
+use Rattle.crumbmap.specs.Layouts.{layout1}
+use Rattle.machine.specs.Images.{inBack}
+use Rattle.image.specs.Steps.ImageReads.{BackRead}
 use Rattle.image.proofs.ImageReadLaws.{back-read, back-unsound}
 use Rattle.lookup.proofs.ask.seek.Statement.{statement}
 use Rattle.lookup.proofs.ask.seek.Tie as tie
 
-mul-member : tie.Need-mul-member
-mul-member c = search needs
+-- the points of the walk: the copies are counted; the bytes are lent; the bucket is sound; it is read; the start
+abbrev lent : tie.After-copies-back → tie.After-back-bucket
+lent c = c .before
 
-add-member : tie.Need-add-member
-add-member c = search needs
+abbrev sound : tie.After-back-bucket → tie.After-known-told
+sound c = c .before
 
-read-back-at-requires : tie.Need-read-back-at-requires
-read-back-at-requires c κs = search needs
+abbrev read : tie.After-known-told → tie.After-read-back-at
+read c = c .before .before .before
 
-enum-known-slot : tie.Need-enum-known-slot
-enum-known-slot c = search needs
+abbrev start : tie.After-read-back-at → tie.Start
+start c = c .before .before .before .before
 
-enum-told : tie.Need-enum-told
-enum-told c = search needs
+-- the backyard bucket was read, and the slot is that of the member
+back : (c : tie.After-known-told) → let a = start (read c) .args in let j = a .way .bucket .0 in
+    BackRead layout1 (a .size) j (a .image .now)
+    × (c .before .slot .given .0 .1 .0 ≡ below (a .key * 16 + a .way .crumb) (inBack layout1 (a .size) j (a .image .now)))
+back c =
+    let a = start (read c) .args in
+    let r = back-read layout1 (a .size) (a .way .bucket .0) (a .key * 16 + a .way .crumb) (a .image .now) (read c .read-back-at .ensures)
+    (c .before .slot .given .1) in
+    (r .0, r .2)
 
-table-of-requires : tie.Need-table-of-requires
-table-of-requires c κs = search needs
+-- the copies in that bucket
+here : (c : tie.After-copies-back) → let a = start (read (sound (lent c))) .args in
+    c .copies-back .result ≡ copies (a .key * 16 + a .way .crumb) (inBack layout1 (a .size) (a .way .bucket .0) (a .image .now))
+here c = rw (lent c .back-bucket .ensures .0) at (c .copies-back .ensures)
 
 returns : tie.Need-returns
 returns c =
-    let c3 = c .before .before .before in
-    let a = c3 .before .before .before .before .args in
+    let r = c .before .before .before in
+    let a = start r .args in
     rw (
       c .table-of .ensures,
-      back-unsound (a .size) (a .way .bucket .0) (a .key * 16 + a .way .crumb) (a .image .now) (c3 .read-back-at .ensures)
+      back-unsound layout1 (a .size) (a .way .bucket .0) (a .key * 16 + a .way .crumb) (a .image .now) (r .read-back-at .ensures)
           (c .before .enum-told .given .1),
     )
-
--- the backyard bucket was read, and the slot is that of the member
-back : (c : tie.After-known-told) →
-    let a = c .before .before .before .before .before .before .before .args in
-    let j = a .way .bucket .0 in
-    BackRead (a .size) j (a .image .now)
-    × (c .before .slot .given .0 .1 .0 ≡ below (a .key * 16 + a .way .crumb) (inBack (a .size) j (a .image .now)))
-back c =
-    let c3 = c .before .before .before in
-    let a = c3 .before .before .before .before .args in
-    let r = back-read (a .size) (a .way .bucket .0) (a .key * 16 + a .way .crumb) (a .image .now) (c3 .read-back-at .ensures)
-    (c .before .slot .given .1) in
-    (r .0, r .2)
 
 back-bucket-requires : tie.Need-back-bucket-requires
 back-bucket-requires c κs = back c .0 .within
 
 copies-back-requires : tie.Need-copies-back-requires
 copies-back-requires c κs =
-    let c1 = c .before in
-    let s = c1 .before .before .before .before .before .before .before in
-    rw (c .back-bucket .ensures .0) (back c1 .0 .sound, omega (arith, s .pre .1, s .pre .2), back c1 .1)
-
--- the copies in that bucket
-here : (c : tie.After-copies-back) →
-    let a = c .before .before .before .before .before .before .before .before .before .args in
-    c .copies-back .result ≡ copies (a .key * 16 + a .way .crumb) (inBack (a .size) (a .way .bucket .0) (a .image .now))
-here c = rw (c .before .back-bucket .ensures .0) at (c .copies-back .ensures)
+    let r = back (sound c) in
+    let p = start (read (sound c)) .pre in
+    rw (c .back-bucket .ensures .0) (r .0 .sound, omega (arith, p .1, p .2), r .1)
 
 returns-2 : tie.Need-returns-2
 returns-2 c =
-    let c3 = c .before .before .before in
-    let a = c3 .before .before .before .before .before .before .before .args in
-    let r = back c3 in
-    let ys = inBack (a .size) (a .way .bucket .0) (a .image .now) in
+    let k = sound (lent (c .before)) in
+    let a = start (read k) .args in
+    let r = back k in
+    let ys = inBack layout1 (a .size) (a .way .bucket .0) (a .image .now) in
     rw (r .1, r .0 .accepts, slotOf-some (a .key * 16 + a .way .crumb) ys (r .0 .list .order) (omega (arith, here (c .before))))
 
 returns-3 : tie.Need-returns-3
 returns-3 c =
-    let c3 = c .before .before .before in
-    let a = c3 .before .before .before .before .before .before .before .args in
-    let ys = inBack (a .size) (a .way .bucket .0) (a .image .now) in
-    rw (back c3 .0 .accepts, slotOf-none (a .key * 16 + a .way .crumb) ys (omega (arith, here (c .before))))
+    let k = sound (lent (c .before)) in
+    let a = start (read k) .args in
+    let ys = inBack layout1 (a .size) (a .way .bucket .0) (a .image .now) in
+    rw (back k .0 .accepts, slotOf-none (a .key * 16 + a .way .crumb) ys (omega (arith, here (c .before))))
 
 pub seek-spec : {M : Type 1} → statement M
 seek-spec =
     tie.close
     (tie.spec
-    mul-member
-    add-member
-    read-back-at-requires
-    enum-known-slot
-    enum-told
-    table-of-requires
+    (λ c. search needs)
+    (λ c. search needs)
+    (λ c κs. search needs)
+    (λ c. search needs)
+    (λ c. search needs)
+    (λ c κs. search needs)
     returns
     back-bucket-requires
     copies-back-requires

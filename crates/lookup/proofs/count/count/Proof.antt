@@ -8,38 +8,34 @@ use Rattle.image.proofs.ImageReadLaws.{located, mislaid, placed}
 use Rattle.lookup.proofs.count.count.Statement.{statement}
 use Rattle.lookup.proofs.count.count.Tie as tie
 
-locate-requires : tie.Need-locate-requires
-locate-requires c κs = search needs
+-- the points of the walk: the hash's target is known; it is sought; the start
+abbrev known : tie.After-known-told → tie.After-locate
+known c = c .before .before .before
 
-enum-known-target : tie.Need-enum-known-target
-enum-known-target c = search needs
-
-enum-told : tie.Need-enum-told
-enum-told c = search needs
+abbrev start : tie.After-locate → tie.Start
+start c = c .before .before
 
 returns : tie.Need-returns
 unfolding countOf
 returns c =
-    let s = c .before .before .before .before in
-    let img = s .args .image .now in
-    mislaid img (s .args .hash) (λ B f x. countAt layout1 B f x img) (c .before .before .locate .ensures) (c .enum-told .given .1)
+    let l = c .before .before in
+    let a = start l .args in
+    mislaid layout1 (a .image .now) (a .hash) (l .locate .ensures) (λ B f x. countAt layout1 B f x (a .image .now)) (c .enum-told .given .1)
 
-count-front-requires : tie.Need-count-front-requires
-count-front-requires c κs =
-    let c3 = c .before .before .before in
-    let s = c3 .before .before in
-    placed (s .args .image .now) (s .args .hash) (c3 .locate .ensures) (c .before .target .given .1)
+count-at-requires : tie.Need-count-at-requires
+count-at-requires c κs =
+    let a = start (known c) .args in
+    placed layout1 (a .image .now) (a .hash) (known c .locate .ensures) (c .before .target .given .1)
 
 returns-2 : tie.Need-returns-2
 unfolding countOf
 returns-2 c =
-    let c4 = c .before .before .before .before in
-    let s = c4 .before .before in
-    let img = s .args .image .now in
-    c .count-front .ensures ∙ located img (s .args .hash) (λ B f x. countAt layout1 B f x img) (c4 .locate .ensures)
-    (c .before .before .target .given .1)
+    let l = known (c .before) in
+    let a = start l .args in
+    c .count-at .ensures
+    ∙ located layout1 (a .image .now) (a .hash) (l .locate .ensures) (λ B f x. countAt layout1 B f x (a .image .now)) (c .before .before .target .given .1)
 
 pub count-spec : {M : Type 1} → statement M
 count-spec =
     tie.close
-    (tie.spec locate-requires enum-known-target enum-told returns count-front-requires returns-2)
+    (tie.spec (λ c κs. search needs) (λ c. search needs) (λ c. search needs) returns count-at-requires returns-2)

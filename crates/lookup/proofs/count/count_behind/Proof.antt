@@ -1,130 +1,72 @@
--- `lookup::count::count_behind` meets its contract. The copies in front, in First(f) and in Second(f), at most 28 + 22 + 22.
-use mathlib.Core.Path.{ap}
+-- `lookup::count::count_behind` meets its contract. The copies in front, in First(f) and in Second(f), no more than their slots.
 use mathlib.Core.Bool.{true, false}
+use mathlib.Core.Path.{sym}
 use native.Mathlib.Omega.{arith}
-use lib.ListN.{length}
 use borrow.Author.Needs.{needs}
-use borrow.Author.Tests.{eq-eqb, le-leb}
-use Rattle.multiset.specs.Multisets.{largest}
-use Rattle.multiset.proofs.MultisetLaws.{copies-le-length}
-use Rattle.machine.specs.Machine.{countAt, counted}
-use Rattle.image.specs.ImageReads.{inFront, BothRead, BothRank}
-use Rattle.image.proofs.ImageReadLaws.{both-hold, both-unsound, both-accepts, chosen-way}
+use Rattle.crumbmap.specs.Layouts.{layout1}
+use Rattle.image.specs.Steps.ImageReads.{Reads}
+use Rattle.image.proofs.ImageReadLaws.{both-sound, both-unsound, read-for}
+use Rattle.lookup.proofs.CountSteps.{here-few, behind-unsound, behind-counted}
 use Rattle.lookup.proofs.count.count_behind.Statement.{statement}
 use Rattle.lookup.proofs.count.count_behind.Tie as tie
 
-read-behind-requires : tie.Need-read-behind-requires
-read-behind-requires c κs = search needs
+-- the points of the walk: both bags are counted; b0 and b1 are sound, or one is not; they are read; the start
+abbrev counted : tie.After-copies-at2 → tie.After-known-told2
+counted c = c .before .before
 
-enum-known-table : tie.Need-enum-known-table
-enum-known-table c = search needs
+abbrev sound : tie.After-known-told2 → tie.After-read-backyard
+sound c = c .before .before .before
 
-enum-known-a : tie.Need-enum-known-a
-enum-known-a c = search needs
+abbrev unsound : tie.After-known-told → tie.After-read-backyard
+unsound c = c .before .before .before
 
--- both backyard buckets were read, and the slots are those of the key
-both : (c : tie.After-known-told2) →
-    let a = c .before .before .before .before .before .before .args in
-    let t = a .target in
-    BothRead (t .size) (t .front .0) (a .image .now)
-    × BothRank (t .size) (t .front .0) (t .key) (a .image .now) (c .before .a .given .0 .0 .below) (c .before .a .given .0 .1 .0 .below)
+abbrev start : tie.After-read-backyard → tie.Start
+start c = c .before .before .before .before
+
+-- both backyard buckets, as they were read for the key
+both : (c : tie.After-known-told2) → let a = start (sound c) .args in let t = a .target in let g = c .before .a .given .0 in
+    Reads layout1 true (t .size) (t .front .0) (t .key) (a .image .now) (g .0)
+    × Reads layout1 false (t .size) (t .front .0) (t .key) (a .image .now) (g .1 .0)
 both c =
-    let c3 = c .before .before .before in
-    let a = c3 .before .before .before .args in
+    let a = start (sound c) .args in
     let t = a .target in
-    let r = both-hold (t .size) (t .front .0) (t .key) (a .image .now) (c3 .read-behind .ensures) (c .before .a .given .1) in
-    (r .0 .read, r .1)
-
-first-of-requires : tie.Need-first-of-requires
-first-of-requires c κs = search needs
+    both-sound layout1 (t .size) (t .front .0) (t .key) (a .image .now) (sound c .read-backyard .ensures) (c .before .a .given .1)
 
 copies-at-requires : tie.Need-copies-at-requires
-copies-at-requires c κs =
-    let c1 = c .before in
-    let s = c1 .before .before .before .before .before .before in
-    let r = both c1 in
-    let l = c .first-of .ensures in
-    (chosen-way (r .0) true l, l .small, s .pre .placed .key, rw (l .bucket, l .crumb) (r .1 .first))
-
-second-of-requires : tie.Need-second-of-requires
-second-of-requires c κs = search needs
+copies-at-requires c κs = read-for (both c .0) (start (sound c) .pre .placed .key)
 
 copies-at-requires-2 : tie.Need-copies-at-requires-2
-copies-at-requires-2 c κs =
-    let c3 = c .before .before .before in
-    let s = c3 .before .before .before .before .before .before in
-    let r = both c3 in
-    let l = c .second-of .ensures in
-    (chosen-way (r .0) false l, l .small, s .pre .placed .key, rw (l .bucket, l .crumb) (r .1 .second))
+copies-at-requires-2 c κs = let k = c .before in read-for (both k .1) (start (sound k) .pre .placed .key)
 
-add-t16 : tie.Need-add-t16
-add-t16 c =
-    let s = c .before .before .before .before .before .before .before .before .before .before in
-    let img = s .args .image .now in
-    let t = s .args .target in
-    omega (arith, s .pre .whole .full, s .pre .many, copies-le-length (t .key) (inFront (t .front .0) img), c .before .before .copies-at .ensures .1)
+add-near : tie.Need-add-near
+add-near c = omega (arith, here-few (start (sound (counted c)) .pre), c .before .copies-at .ensures .1)
 
-add-t17 : tie.Need-add-t17
-add-t17 c =
-    let s = c .before .before .before .before .before .before .before .before .before .before in
-    let img = s .args .image .now in
-    let t = s .args .target in
-    omega (
-      arith,
-      s .pre .whole .full,
-      s .pre .many,
-      copies-le-length (t .key) (inFront (t .front .0) img),
-      c .before .before .copies-at .ensures .1,
-      c .copies-at2 .ensures .1,
-    )
+add-copies : tie.Need-add-copies
+add-copies c = omega (arith, here-few (start (sound (counted c)) .pre), c .before .copies-at .ensures .1, c .copies-at2 .ensures .1)
 
 returns : tie.Need-returns
-unfolding countAt
 returns c =
-    let c3 = c .before .before .before in
-    let s = c3 .before .before .before in
+    let s = start (unsound c) in
     let t = s .args .target in
-    let xs = inFront (t .front .0) (s .args .image .now) in
-    rw (
-      s .pre .whole .read .accepts,
-      eq-eqb (length xs) 28 (s .pre .whole .full),
-      le-leb (largest xs) (t .key) (s .pre .reach),
-      both-unsound (t .size) (t .front .0) (t .key) (s .args .image .now) (c3 .read-behind .ensures) (c .before .table .given .1),
-    )
+    sym (behind-unsound (s .pre)
+    (both-unsound layout1 (t .size) (t .front .0) (t .key) (s .args .image .now) (unsound c .read-backyard .ensures) (c .before .table .given .1)))
 
 returns-2 : tie.Need-returns-2
-unfolding countAt
 returns-2 c =
-    let c3 = c .before .before .before in
-    let c4 = c3 .before in
-    let s = c4 .before .before .before .before .before .before in
-    let img = s .args .image .now in
-    let t = s .args .target in
-    let xs = inFront (t .front .0) img in
-    let l = c3 .first-of .ensures in
-    let k = c .before .second-of .ensures in
-    let a = rw (l .bucket, l .crumb) at (c .before .before .copies-at .ensures .0) in
-    let b = rw (k .bucket, k .crumb) at (c .copies-at2 .ensures .0) in
-    rw (
-      s .pre .whole .read .accepts,
-      eq-eqb (length xs) 28 (s .pre .whole .full),
-      le-leb (largest xs) (t .key) (s .pre .reach),
-      both-accepts (both c4 .0),
-    )
-    (ap (counted 3) (omega (arith, s .pre .many, a, b)))
+    let k = counted c in
+    behind-counted (start (sound k) .pre) (both k .0) (both k .1) (c .before .copies-at .ensures .0) (c .copies-at2 .ensures .0)
 
 pub count-behind-spec : {M : Type 1} → statement M
 count-behind-spec =
     tie.close
     (tie.spec
-    read-behind-requires
-    enum-known-table
-    enum-known-a
-    first-of-requires
+    (λ c κs. search needs)
+    (λ c κs. search needs)
+    (λ c. search needs)
+    (λ c. search needs)
     copies-at-requires
-    second-of-requires
     copies-at-requires-2
-    add-t16
-    add-t17
+    add-near
+    add-copies
     returns
     returns-2)

@@ -1,85 +1,94 @@
--- A member is in turn where its front bucket holds 28 and its largest is at most the member's key.
+-- `validation::check::member_in_turn` meets its contract. A member is in turn where its front bucket holds all its slots and its largest is at most
+-- the member's key.
 use mathlib.Core.Path.{_≡_, sym}
 use Prim.Native.Nat.{_/_, _%_}
 use mathlib.Core.Option.{some}
 use native.Mathlib.Omega.{arith}
 use lib.ListN.{length}
+use borrow.Author.Needs.{needs}
 use Rattle.multiset.specs.Multisets.{largest}
+use Rattle.crumbmap.specs.Layouts.{layout1}
 use Rattle.crumbmap.specs.CrumbMap.{home}
 use Rattle.crumbmap.proofs.CrumbMapLaws.{home-lt}
-use Rattle.image.specs.ImageReads.{inFront, FrontRead}
+use Rattle.machine.specs.Images.{inFront}
+use Rattle.image.specs.Steps.ImageReads.{FrontRead, FrontFull}
+use Rattle.image.proofs.ImageReadLaws.{front-full}
 use Rattle.validation.proofs.CheckSteps.{home-none, home-some, turn-short, turn-full}
-use borrow.Author.Needs.{needs}
 use Rattle.validation.proofs.check.member_in_turn.Statement.{statement}
 use Rattle.validation.proofs.check.member_in_turn.Tie as tie
 
-home-of-requires : tie.Need-home-of-requires
-home-of-requires c κs = search needs
+-- the points of the walk: the front bucket holds all its slots; it is counted; its bytes are lent; it is known; the way back is sought; the start
+abbrev counted : tie.Else1 → tie.After-count-front
+counted c = c .before
 
-enum-known-front : tie.Need-enum-known-front
-enum-known-front c = search needs
+abbrev lent : tie.After-count-front → tie.After-bucket
+lent c = c .before
 
-enum-told : tie.Need-enum-told
-enum-told c = search needs
+abbrev known : tie.After-bucket → tie.After-front
+known c = c .before .before
+
+abbrev sought : tie.After-front → tie.After-home-of
+sought c = c .before .before
+
+abbrev start : tie.After-home-of → tie.Start
+start c = c .before .before
+
+-- the crumb leads back to the front bucket, which was read
+homed : (c : tie.After-front) → let a = start (sought c) .args in home (a .size) (a .bucket .0) (a .member % 16) ≡ some (c .front .given .0 .0 .0)
+homed c =
+    let a = start (sought c) .args in
+    home-some (home (a .size) (a .bucket .0) (a .member % 16)) (sought c .home-of .ensures) (c .front .given .1)
+
+read : (c : tie.After-front) → FrontRead layout1 (c .front .given .0 .0 .0) (start (sought c) .args .image .now)
+read c =
+    let s = start (sought c) in
+    s .pre .0 .front _ (home-lt (s .args .size) (s .args .bucket .0) (s .args .member % 16) (c .front .given .0 .0 .0) (omega arith) (homed c))
+
+-- how many it holds, and that it holds all it can
+many : (c : tie.After-count-front) → let k = known (lent c) in
+    c .count-front .result ≡ length (inFront layout1 (k .front .given .0 .0 .0) (start (sought k) .args .image .now))
+many c = rw (lent c .bucket .ensures .0) at (c .count-front .ensures)
+
+full : (c : tie.Else1) → let k = known (lent (counted c)) in FrontFull layout1 (k .front .given .0 .0 .0) (start (sought k) .args .image .now)
+full c = front-full (read (known (lent (counted c)))) (sym (many (counted c))) (omega arith)
 
 returns : tie.Need-returns
 returns c =
-    let a = c .before .before .before .before .args in
-    rw (home-none (home (a .size) (a .bucket .0) (a .member % 16)) (c .before .before .home-of .ensures) (c .enum-told .given .1))
-
--- the front bucket that the crumb leads back to was read
-abbrev start : tie.After-front → tie.Start
-start c = c .before .before .before .before
-
-homed : (c : tie.After-front) → home (start c .args .size) (start c .args .bucket .0) (start c .args .member % 16) ≡ some (c .front .given .0 .0 .0)
-homed c = home-some (home (start c .args .size) (start c .args .bucket .0) (start c .args .member % 16)) (c .before .before .home-of .ensures) (c .front .given .1)
-
-read : (c : tie.After-front) → FrontRead (c .front .given .0 .0 .0) (start c .args .image .now)
-read c =
-    let s = start c in
-    s .pre .0 .front _ (home-lt (s .args .size) (s .args .bucket .0) (s .args .member % 16) (c .front .given .0 .0 .0) (omega arith) (homed c))
+    let h = c .before .before in
+    let a = start h .args in
+    rw (home-none (home (a .size) (a .bucket .0) (a .member % 16)) (h .home-of .ensures) (c .enum-told .given .1))
 
 bucket-requires : tie.Need-bucket-requires
 bucket-requires c κs = read (c .before) .inside
 
 count-front-requires : tie.Need-count-front-requires
-count-front-requires c κs = rw (c .bucket .ensures .0) (read (c .before .before) .sound)
-
--- how many it holds, and that it holds all it can
-abbrev told : tie.After-count-front → tie.After-front
-told c = c .before .before .before
-
-counted : (c : tie.After-count-front) → c .count-front .result ≡ length (inFront (told c .front .given .0 .0 .0) (start (told c) .args .image .now))
-counted c = rw (c .before .bucket .ensures .0) at (c .count-front .ensures)
-
-all-held : (c : tie.Else1) → let t = told (c .before) in length (inFront (t .front .given .0 .0 .0) (start t .args .image .now)) ≡ 28
-all-held c = omega (arith, c .if1 .left, counted (c .before), read (told (c .before)) .list .room)
+count-front-requires c κs = rw (c .bucket .ensures .0) (read (known c) .sound)
 
 returns-2 : tie.Need-returns-2
 returns-2 c =
-    let t = told (c .before) in
-    let a = start t .args in
-    rw (homed t) (sym (turn-short (a .member / 16) (t .front .given .0 .0 .0) (a .image .now) (read t) (omega (arith, c .if1 .taken, counted (c .before)))))
+    let n = c .before in
+    let k = known (lent n) in
+    rw (homed k) (sym (turn-short (read k) (start (sought k) .args .member / 16) (omega (arith, c .if1 .taken, many n))))
 
 largest-front-requires : tie.Need-largest-front-requires
-largest-front-requires c κs = rw (c .before .before .bucket .ensures .0) (read (told (c .before)) .sound, all-held c)
+largest-front-requires c κs = rw (lent (counted c) .bucket .ensures .0) (full c .read .sound, full c .full)
 
 returns-3 : tie.Need-returns-3
 returns-3 c =
-    let n = c .before .before in
-    let t = told n in
-    let a = start t .args in
-    let f = t .front .given .0 .0 .0 in
-    let most : c .largest-front .result ≡ largest (inFront f (a .image .now)) = rw (n .before .bucket .ensures .0) at (c .largest-front .ensures) in
-    rw (homed t, most, turn-full (a .member / 16) f (a .image .now) (read t) (all-held (c .before)))
+    let b = lent (counted (c .before)) in
+    let k = known b in
+    let a = start (sought k) .args in
+    let most : c .largest-front .result ≡ largest (inFront layout1 (k .front .given .0 .0 .0) (a .image .now)) =
+    rw (b .bucket .ensures .0) at (c .largest-front .ensures) in
+    rw (homed k, most, turn-full (full (c .before)) (a .member / 16))
 
 pub member-in-turn-spec : {M : Type 1} → statement M
 member-in-turn-spec =
     tie.close
     (tie.spec
-    home-of-requires
-    enum-known-front
-    enum-told
+    (λ c κs. search needs)
+    (λ c. search needs)
+    (λ c. search needs)
     returns
     bucket-requires
     count-front-requires

@@ -1,13 +1,13 @@
--- The loop's invariant: the first unsound backyard bucket is the first from j on. The measure is what is left of them.
-use mathlib.Core.Path.{_≡_, _∙_}
+-- `validation::check::unsound_back` meets its contract. The loop's invariant: the first unsound backyard bucket is the first from j on.
+-- The measure is what is left of them.
+use mathlib.Core.Path.{_≡_}
 use Prim.Native.Nat.{_-_, _≤_, _<_}
 use native.Mathlib.Nat.{sub-zero}
 use native.Mathlib.Omega.{arith}
 use Rattle.crumbmap.specs.Layouts.{layout1, backyards}
-use Rattle.image.specs.ImageReads.{BackIn}
+use Rattle.image.specs.Steps.ImageReads.{BackIn}
 use Rattle.machine.specs.Checks.{unsoundBack}
-use Rattle.machine.proofs.ImageLaws.{back-inside}
-use Rattle.image.proofs.ImageReadLaws.{back-read, back-unsound}
+use Rattle.image.proofs.ImageReadLaws.{back-in, back-read, back-unsound}
 use Rattle.validation.proofs.CheckSteps.{back-on, back-stop, back-end}
 use borrow.Author.Needs.{needs}
 use Rattle.validation.proofs.check.unsound_back.Statement.{statement}
@@ -19,68 +19,66 @@ Inv-loop image size end j₀ j = (j ≤ end) × (unsoundBack layout1 size (backy
 abbrev μ-loop : tie.MeasureT-loop
 μ-loop image size end j₀ j = end - j
 
-add-end : tie.Need-add-end Inv-loop μ-loop
-add-end c = search needs
+-- the points of the walk: bucket j is sound, or not; it is read; its turn; the start
+abbrev sound : tie.After-enum-told Inv-loop μ-loop → tie.After-read-back-at Inv-loop μ-loop
+sound c = c .before .before
+
+abbrev unsound : tie.After-enum-told2 Inv-loop μ-loop → tie.After-read-back-at Inv-loop μ-loop
+unsound c = c .before .before
+
+abbrev turn : tie.After-read-back-at Inv-loop μ-loop → tie.In-loop Inv-loop μ-loop
+turn c = c .before
+
+abbrev start : tie.In-loop Inv-loop μ-loop → tie.Start Inv-loop μ-loop
+start c = c .before .before .before
+
+-- j is the number of a backyard bucket, which lies in the image
+inside : (c : tie.In-loop Inv-loop μ-loop) → c .before .loop .j < backyards (start c .args .size)
+unfolding backyards
+inside c = omega arith
+
+within : (c : tie.In-loop Inv-loop μ-loop) → BackIn (start c .args .size) (c .before .loop .j) (start c .args .image .now)
+within c = back-in (start c .pre) (inside c)
 
 loop-holds : tie.Need-loop-holds Inv-loop μ-loop
 loop-holds c = (omega arith, rw sub-zero)
 
--- j is the number of a backyard bucket, which lies in the image
-inside : (c : tie.In-loop Inv-loop μ-loop) → c .before .loop .j < backyards (c .before .before .before .args .size)
-unfolding backyards
-inside c = omega arith
-
-within : (c : tie.In-loop Inv-loop μ-loop) → BackIn (c .before .before .before .args .size) (c .before .loop .j) (c .before .before .before .args .image .now)
-within c =
-    let s = c .before .before .before in
-    record { small = s .pre .small; bucket = inside c; inside = rw (s .pre .long) (back-inside (s .args .size) (c .before .loop .j) (inside c)) }
-
 read-back-at-requires : tie.Need-read-back-at-requires Inv-loop μ-loop
 read-back-at-requires c κs = (within c, omega arith)
 
-enum-told : tie.Need-enum-told Inv-loop μ-loop
-enum-told c = search needs
-
-enum-told-2 : tie.Need-enum-told-2 Inv-loop μ-loop
-enum-told-2 c = search needs
-
 table-of-requires : tie.Need-table-of-requires Inv-loop μ-loop
-table-of-requires c κs = let w = within (c .before .before .before) in (w .small, w .bucket)
+table-of-requires c κs = let w = within (turn (unsound c)) in (w .small, w .bucket)
 
 returns : tie.Need-returns Inv-loop μ-loop
 returns c =
-    let i = c .before .before .before .before in
-    let s = i .before .before .before in
-    let j = i .before .loop .j in
+    let u = c .before in
+    let i = turn (unsound u) in
+    let a = start i .args in
+    let l = i .before .loop in
     rw (
       c .table-of .ensures,
-      i .before .loop .inv .1
-          ∙ back-stop (s .args .size) (backyards (s .args .size)) j (s .args .image .now) (inside i)
-          (back-unsound (s .args .size) j 0 (s .args .image .now) (c .before .before .before .read-back-at .ensures) (c .before .enum-told2 .given .1)),
+      back-stop layout1 (a .size) (backyards (a .size)) (l .j) (a .image .now) (l .inv .1) (inside i)
+          (back-unsound layout1 (a .size) (l .j) 0 (a .image .now) (unsound u .read-back-at .ensures) (u .enum-told2 .given .1)),
     )
 
 add-j : tie.Need-add-j Inv-loop μ-loop
-add-j c = omega (arith, c .before .before .before .before .before .before .pre .small)
-
-loop-less : tie.Need-loop-less Inv-loop μ-loop
-loop-less c = omega arith
+add-j c = omega (arith, start (turn (sound c)) .pre .small)
 
 loop-again : tie.Need-loop-again Inv-loop μ-loop
 loop-again c =
-    let i = c .before .before .before in
-    let s = i .before .before .before in
-    let j = i .before .loop .j in (
+    let i = turn (sound c) in
+    let a = start i .args in
+    let l = i .before .loop in (
       omega arith,
-      i .before .loop .inv .1
-          ∙ back-on (s .args .size) (backyards (s .args .size)) j (s .args .image .now) (inside i)
-          (back-read (s .args .size) j 0 (s .args .image .now) (c .before .before .read-back-at .ensures) (c .enum-told .given .1) .0 .accepts),
+      back-on layout1 (a .size) (backyards (a .size)) (l .j) (a .image .now) (l .inv .1) (inside i)
+          (back-read layout1 (a .size) (l .j) 0 (a .image .now) (sound c .read-back-at .ensures) (c .enum-told .given .1) .0 .accepts),
     )
 
 returns-2 : tie.Need-returns-2 Inv-loop μ-loop
 unfolding backyards
 returns-2 c =
-    let s = c .before .before .before in
-    rw (c .before .loop .inv .1 ∙ back-end (s .args .size) (backyards (s .args .size)) (c .before .loop .j) (s .args .image .now) (omega arith))
+    let a = c .before .before .before .args in
+    rw (back-end layout1 (a .size) (backyards (a .size)) (c .before .loop .j) (a .image .now) (c .before .loop .inv .1) (omega arith))
 
 pub unsound-back-spec : {M : Type 1} → statement M
 unsound-back-spec =
@@ -88,14 +86,14 @@ unsound-back-spec =
     (tie.spec
     Inv-loop
     μ-loop
-    add-end
+    (λ c. search needs)
     loop-holds
     read-back-at-requires
-    enum-told
-    enum-told-2
+    (λ c. search needs)
+    (λ c. search needs)
     table-of-requires
     returns
     add-j
-    loop-less
+    (λ c. omega arith)
     loop-again
     returns-2)

@@ -4,18 +4,20 @@ use Prim.Native.Nat.{ℕ, _≤_}
 use mathlib.Core.List.{List}
 use mathlib.Core.Option.{Option, none, some}
 use Rattle.multiset.specs.Multisets.{copies, slotOf, largest}
+use Rattle.crumbmap.specs.Layouts.{Layout}
 use Rattle.machine.specs.Results.{Result, accepted, refused}
+use Rattle.machine.specs.Images.{inFront}
 use Rattle.image.specs.declared.Target.{Target}
 use Rattle.lookup.specs.declared.Sought.{Sought}
 use Rattle.lookup.specs.declared.Sought.the-variants as S
-use Rattle.image.specs.ImageReads.{inFront, Placed, FrontFull}
+use Rattle.image.specs.Steps.ImageReads.{Placed, FrontFull}
 
 -- "Front(f) holds 28 and g is not below its largest", with so many copies in front
-pub record Reaches (t : Target) (here : ℕ) (img : List ℕ) : Type 0 where
-  pub placed : Placed t img
-  pub whole : FrontFull (t .front .0) img
-  pub reach : largest (inFront (t .front .0) img) ≤ t .key
-  pub many : here ≡ copies (t .key) (inFront (t .front .0) img)
+pub record Reaches (L : Layout) (t : Target) (here : ℕ) (img : List ℕ) : Type 0 where
+  pub placed : Placed L t img
+  pub whole : FrontFull L (t .front .0) img
+  pub reach : largest (inFront L (t .front .0) img) ≤ t .key
+  pub many : here ≡ copies (t .key) (inFront L (t .front .0) img)
 
 -- what seeking member y in a backyard bucket finds
 abbrev pub atSlot : Option ℕ → Sought

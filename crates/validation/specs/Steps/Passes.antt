@@ -2,8 +2,8 @@
 use Prim.Native.Nat.{ℕ, _<_}
 use mathlib.Core.List.{List}
 use mathlib.Core.Option.{Option, none, some}
-use Rattle.crumbmap.specs.Layouts.{fronts, backyards}
-use Rattle.image.specs.ImageReads.{FrontRead, BackRead, Whole}
+use Rattle.crumbmap.specs.Layouts.{Layout, fronts, backyards}
+use Rattle.image.specs.Steps.ImageReads.{FrontRead, BackRead, Whole}
 use Rattle.validation.specs.declared.Fault.{Fault}
 use Rattle.validation.specs.declared.Fault.the-variants as F
 
@@ -13,7 +13,7 @@ faultOf none = F.Nowhere
 faultOf (some i) = F.At i
 
 -- all buckets of an image of size B were read and are sound
-pub record AllRead (B : ℕ) (img : List ℕ) : Type 0 where
+pub record AllRead (L : Layout) (B : ℕ) (img : List ℕ) : Type 0 where
   pub whole : Whole B img
-  pub front : (f : ℕ) → f < fronts B → FrontRead f img
-  pub back : (j : ℕ) → j < backyards B → BackRead B j img
+  pub front : (f : ℕ) → f < fronts B → FrontRead L f img
+  pub back : (j : ℕ) → j < backyards B → BackRead L B j img

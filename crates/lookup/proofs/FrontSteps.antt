@@ -1,0 +1,44 @@
+-- What ask and count do alike with a front bucket, for any layout: it is read for a key, and its lent bytes are searched for the key, and for the
+-- largest where it holds all its slots.
+use mathlib.Core.Path.{_≡_}
+use Prim.Native.Nat.{ℕ, _≤_, _<_}
+use mathlib.Core.List.{List}
+use lib.ListN.{length}
+use Rattle.multiset.specs.Multisets.{below, copies, largest}
+use Rattle.crumbmap.specs.Layouts.{Layout, keys}
+use Rattle.buckets.specs.Buckets.{frontList}
+use Rattle.minifilter.specs.Steps.Readings.{SoundFront}
+use Rattle.minifilter.specs.declared.Reading.{Reading}
+use Rattle.minifilter.specs.declared.Reading.the-variants as R
+use Rattle.machine.specs.Images.{bucketAt, inFront}
+use Rattle.image.specs.Steps.ImageReads.{FrontRead, FrontSays, FrontFull}
+use Rattle.image.proofs.ImageReadLaws.{front-read, front-full}
+
+-- front bucket f was read for key x: it holds n members, and `slot` of them are below x
+pub record Holds (L : Layout) (f x : ℕ) (img : List ℕ) (n slot : ℕ) : Type 0 where
+  pub read : FrontRead L f img
+  pub many : length (inFront L f img) ≡ n
+  pub rank : slot ≡ below x (inFront L f img)
+
+pub holds : (L : Layout) (f x : ℕ) (img : List ℕ) {r : Reading} → FrontSays L f x img r → {n slot : ℕ} → r ≡ R.Members n slot
+    → Holds L f x img n slot
+holds L f x img said e = let h = front-read L f x img said e in record { read = h .0; many = h .1; rank = h .2 }
+
+module _ {L : Layout} {f x n slot : ℕ} {img : List ℕ} (h : Holds L f x img n slot) where
+  pub holds-all : L .frontSlots ≤ n → FrontFull L f img
+  holds-all k = front-full (h .read) (h .many) k
+
+  module _ {lent : List ℕ} (bytes : lent ≡ bucketAt f img) where
+    -- what a search of the lent bytes asks
+    pub key-sought : x < keys L → SoundFront L lent × (x < keys L) × (slot ≡ below x (frontList L lent))
+    key-sought k = rw bytes (h .read .sound, k, h .rank)
+
+    pub largest-sought : L .frontSlots ≤ n → SoundFront L lent × (length (frontList L lent) ≡ L .frontSlots)
+    largest-sought k = rw bytes (h .read .sound, holds-all k .full)
+
+    -- and what it found: m copies of x, and the largest
+    pub copies-found : {m : ℕ} → m ≡ copies x (frontList L lent) → m ≡ copies x (inFront L f img)
+    copies-found e = rw bytes at e
+
+    pub largest-found : {top : ℕ} → top ≡ largest (frontList L lent) → top ≡ largest (inFront L f img)
+    largest-found e = rw bytes at e

@@ -1,0 +1,2 @@
+-- Inner steps of ask and count.
+pub mod Lookups

@@ -1,0 +1,2 @@
+-- Inner steps of check.
+pub mod Passes
