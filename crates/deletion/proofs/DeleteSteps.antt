@@ -1,116 +1,164 @@
 -- A delete by what was read: the copy stands in front with free slots, in a full front that is refilled, behind it, or nowhere.
-use mathlib.Core.Path.{_≡_, refl}
+use mathlib.Core.Path.{_≡_, refl, _∙_}
 use Prim.Native.Nat.{ℕ, _+_, _≤_, _<_}
 use mathlib.Core.Bool.{Bool, true, false, cond}
 use mathlib.Core.List.{List, [], _∷_}
 use native.Mathlib.Omega.{arith}
 use lib.ListN.{length}
 use borrow.Author.Tests.{lt-ltb, le-ltb, eq-eqb, ne-eqb}
-use Rattle.multiset.specs.Multisets.{removed, copies, largest}
-use Rattle.crumbmap.specs.Layouts.{layout1}
+use Rattle.multiset.specs.Multisets.{added, removed, copies, largest}
+use Rattle.crumbmap.specs.Layouts.{Layout}
 use Rattle.crumbmap.specs.CrumbMap.{firstBucket, secondBucket, bucketOf}
-use Rattle.crumbmap.specs.Places.{Leads}
-use Rattle.crumbmap.specs.declared.Overflow.{Overflow}
+use Rattle.buckets.specs.Buckets.{Fits64, FrontList}
 use Rattle.machine.specs.Results.{refused}
-use Rattle.machine.specs.Images.{putFront}
+use Rattle.machine.specs.Images.{inFront, inBack, putFront}
 use Rattle.machine.specs.Bags.{has}
-use Rattle.machine.specs.Machine.{backyard, changed, overflow, takeOut, refill, deleteAt}
-use Rattle.image.specs.ImageReads.{inFront, inBack, FrontRead, FrontFull, Exceeds, BothRead}
-use Rattle.deletion.specs.Deletions.{inBoth, firstly, takenOut, refilled}
-use Rattle.image.proofs.ImageReadLaws.{both-accepts, exceeds-absent}
+use Rattle.machine.specs.Machine.{backyard, changed, overflow, overflowIn, takeOut, refill, deleteAt}
+use Rattle.answers.specs.Answers.{refusal}
+use Rattle.answers.specs.declared.Refusal.{Refusal}
+use Rattle.image.specs.Steps.ImageReads.{FrontRead, FrontFull, Exceeds, BothRead}
+use Rattle.image.specs.declared.Target.{Target}
+use Rattle.image.proofs.ImageReadLaws.{both-accepts, exceeds-absent, at-copies}
+use Rattle.image.proofs.ImageWriteLaws.{back-kept}
+use Rattle.machine.proofs.BagLaws.{has-yes, has-no}
+use Rattle.machine.proofs.Members.{inBack-choice, front-swapped}
+use Rattle.machine.proofs.BucketWrites.{inBack-putFront}
+use Rattle.deletion.specs.Steps.Deletions.{Stands, Leaves, without, refilled, Plans, LeavesFront, Refills, TakesOut}
+use Rattle.deletion.specs.declared.Departure.{Departure}
+use Rattle.deletion.specs.declared.Refill.{Refill}
+use Rattle.deletion.specs.declared.DeletePlan.{DeletePlan}
+use Rattle.deletion.specs.declared.DeletePlan.the-variants as P
 
--- the members of the bucket of a choice
-picked : (t : Bool) (B f : ℕ) (img : List ℕ) → cond t (inBack B (firstBucket f) img) (inBack B (secondBucket B f) img) ≡ inBack B (bucketOf t B f) img
-picked true B f img = refl
-picked false B f img = refl
+-- the members of the target's front bucket
+abbrev held : Layout → Target → List ℕ → List ℕ
+held L t img = inFront L (t .front .0) img
 
-pub has-absent : (x : ℕ) (xs : List ℕ) → copies x xs ≡ 0 → has x xs ≡ false
-unfolding has
-has-absent x xs e = rw e
-
-pub has-there : (x : ℕ) (xs : List ℕ) → 0 < copies x xs → has x xs ≡ true
-unfolding has
-has-there x xs h = lt-ltb 0 (copies x xs) h
-
-module _ (B f x : ℕ) (img : List ℕ) where
-  pub delete-short : FrontRead f img → 0 < copies x (inFront f img) → length (inFront f img) < 28
-      → deleteAt layout1 B f x img ≡ changed 0 (putFront layout1 f (removed x (inFront f img)) img)
+module _ {L : Layout} (t : Target) (img : List ℕ) where
+  pub delete-short : FrontRead L (t .front .0) img → 0 < copies (t .key) (held L t img) → length (held L t img) < L .frontSlots
+      → deleteAt L (t .size) (t .front .0) (t .key) img ≡ changed 0 (putFront L (t .front .0) (removed (t .key) (held L t img)) img)
   unfolding deleteAt
-  delete-short r h l = rw (r .accepts, has-there x (inFront f img) h, lt-ltb (length (inFront f img)) 28 l)
+  delete-short r h l = rw (r .accepts, has-yes (t .key) (held L t img) h, lt-ltb (length (held L t img)) (L .frontSlots) l)
 
-  pub absent-short : FrontRead f img → copies x (inFront f img) ≡ 0 → length (inFront f img) < 28 → deleteAt layout1 B f x img ≡ refused 5 0
+  pub absent-short : FrontRead L (t .front .0) img → copies (t .key) (held L t img) ≡ 0 → length (held L t img) < L .frontSlots
+      → deleteAt L (t .size) (t .front .0) (t .key) img ≡ refused 5 0
   unfolding deleteAt
-  absent-short r e l = rw (r .accepts, has-absent x (inFront f img) e, ne-eqb (length (inFront f img)) 28 (λ q. omega arith))
+  absent-short r e l = rw (r .accepts, has-no (t .key) (held L t img) e, ne-eqb (length (held L t img)) (L .frontSlots) (λ q. omega arith))
 
-  pub absent-low : FrontFull f img → copies x (inFront f img) ≡ 0 → x ≤ largest (inFront f img) → deleteAt layout1 B f x img ≡ refused 5 0
+  pub absent-low : FrontFull L (t .front .0) img → copies (t .key) (held L t img) ≡ 0 → t .key ≤ largest (held L t img) → deleteAt L (t .size) (t .front .0) (t .key) img ≡ refused 5 0
   unfolding deleteAt
-  absent-low w e l = rw (w .read .accepts, has-absent x (inFront f img) e, eq-eqb (length (inFront f img)) 28 (w .full), le-ltb (largest (inFront f img)) x l)
+  absent-low w e l = rw (w .read .accepts, has-no (t .key) (held L t img) e, eq-eqb (length (held L t img)) (L .frontSlots) (w .full), le-ltb (largest (held L t img)) (t .key) l)
 
   -- a copy leaves a full front bucket
-  module _ (w : FrontFull f img) (h : 0 < copies x (inFront f img)) where
-    pub refill-unsound : {i : ℕ} → backyard layout1 B f img ≡ refused 3 i → deleteAt layout1 B f x img ≡ refused 3 i
+  module _ (w : FrontFull L (t .front .0) img) (h : 0 < copies (t .key) (held L t img)) where
+    pub refill-unsound : {i : ℕ} → backyard L (t .size) (t .front .0) img ≡ refused 3 i → deleteAt L (t .size) (t .front .0) (t .key) img ≡ refused 3 i
     unfolding deleteAt
-    refill-unsound e = rw (w .read .accepts, has-there x (inFront f img) h, le-ltb (length (inFront f img)) 28 (omega (arith, w .full)), e)
+    refill-unsound e = rw (w .read .accepts, has-yes (t .key) (held L t img) h, le-ltb (length (held L t img)) (L .frontSlots) (omega (arith, w .full)), e)
 
-    pub refill-nothing : BothRead B f img → inBoth B f img ≡ [] → deleteAt layout1 B f x img ≡ changed 0 (putFront layout1 f (removed x (inFront f img)) img)
+    pub refill-nothing : BothRead L (t .size) (t .front .0) img → overflowIn L (t .size) (t .front .0) img ≡ []
+        → deleteAt L (t .size) (t .front .0) (t .key) img ≡ changed 0 (putFront L (t .front .0) (removed (t .key) (held L t img)) img)
     unfolding deleteAt overflow refill
     refill-nothing b e =
-        rw (w .read .accepts, has-there x (inFront f img) h, le-ltb (length (inFront f img)) 28 (omega (arith, w .full)), both-accepts b, e)
+        rw (w .read .accepts, has-yes (t .key) (held L t img) h, le-ltb (length (held L t img)) (L .frontSlots) (omega (arith, w .full)), both-accepts b, e)
 
-    pub refill-least : (t : Bool) {v : ℕ} {vs : List ℕ} {o : Overflow} → BothRead B f img → inBoth B f img ≡ v ∷ vs → firstly B f v img ≡ t → Leads t B f o
-        → deleteAt layout1 B f x img ≡ changed (1 + o .bucket .0) (refilled B f x v o img)
+    pub refill-least : {d : Departure} {vs : List ℕ} → BothRead L (t .size) (t .front .0) img → overflowIn L (t .size) (t .front .0) img ≡ d .key ∷ vs
+        → Leaves L (t .size) (t .front .0) d img → deleteAt L (t .size) (t .front .0) (t .key) img ≡ changed (1 + d .way .bucket .0) (refilled L t d img)
     unfolding deleteAt overflow refill takeOut refilled
-    refill-least t b e c leads =
+    refill-least b e l =
         rw (
           w .read .accepts,
-          has-there x (inFront f img) h,
-          le-ltb (length (inFront f img)) 28 (omega (arith, w .full)),
+          has-yes (t .key) (held L t img) h,
+          le-ltb (length (held L t img)) (L .frontSlots) (omega (arith, w .full)),
           both-accepts b,
           e,
-          c,
-          picked t B f img,
-          leads .bucket,
-          leads .crumb,
+          l .chosen,
+          inBack-choice L (t .size) (t .front .0) img (l .choice),
+          l .leads .bucket,
+          l .leads .crumb,
         )
 
   -- a copy may stand behind it
-  module _ (e : Exceeds f x img) where
-    pub behind-unsound : {i : ℕ} → backyard layout1 B f img ≡ refused 3 i → deleteAt layout1 B f x img ≡ refused 3 i
+  module _ (e : Exceeds L (t .front .0) (t .key) img) where
+    pub behind-unsound : {i : ℕ} → backyard L (t .size) (t .front .0) img ≡ refused 3 i → deleteAt L (t .size) (t .front .0) (t .key) img ≡ refused 3 i
     unfolding deleteAt
     behind-unsound u =
         rw (
           e .whole .read .accepts,
-          has-absent x (inFront f img) (exceeds-absent e),
-          eq-eqb (length (inFront f img)) 28 (e .whole .full),
-          lt-ltb (largest (inFront f img)) x (e .over),
+          has-no (t .key) (held L t img) (exceeds-absent e),
+          eq-eqb (length (held L t img)) (L .frontSlots) (e .whole .full),
+          lt-ltb (largest (held L t img)) (t .key) (e .over),
           u,
         )
 
-    pub behind-absent : BothRead B f img → has x (inBoth B f img) ≡ false → deleteAt layout1 B f x img ≡ refused 5 0
+    pub behind-absent : BothRead L (t .size) (t .front .0) img → has (t .key) (overflowIn L (t .size) (t .front .0) img) ≡ false
+        → deleteAt L (t .size) (t .front .0) (t .key) img ≡ refused 5 0
     unfolding deleteAt overflow
     behind-absent b h =
         rw (
           e .whole .read .accepts,
-          has-absent x (inFront f img) (exceeds-absent e),
-          eq-eqb (length (inFront f img)) 28 (e .whole .full),
-          lt-ltb (largest (inFront f img)) x (e .over),
+          has-no (t .key) (held L t img) (exceeds-absent e),
+          eq-eqb (length (held L t img)) (L .frontSlots) (e .whole .full),
+          lt-ltb (largest (held L t img)) (t .key) (e .over),
           both-accepts b,
           h,
         )
 
-    pub behind-taken : (t : Bool) {o : Overflow} → BothRead B f img → has x (inBoth B f img) ≡ true → firstly B f x img ≡ t → Leads t B f o
-        → deleteAt layout1 B f x img ≡ changed (1 + o .bucket .0) (takenOut B x o img)
-    unfolding deleteAt overflow takeOut takenOut
-    behind-taken t b h c leads =
+    pub behind-taken : {d : Departure} → BothRead L (t .size) (t .front .0) img → has (t .key) (overflowIn L (t .size) (t .front .0) img) ≡ true
+        → d .key ≡ t .key → Leaves L (t .size) (t .front .0) d img
+        → deleteAt L (t .size) (t .front .0) (t .key) img ≡ changed (1 + d .way .bucket .0) (without L (t .size) d img)
+    unfolding deleteAt overflow takeOut without
+    behind-taken b h k l =
         rw (
           e .whole .read .accepts,
-          has-absent x (inFront f img) (exceeds-absent e),
-          eq-eqb (length (inFront f img)) 28 (e .whole .full),
-          lt-ltb (largest (inFront f img)) x (e .over),
+          has-no (t .key) (held L t img) (exceeds-absent e),
+          eq-eqb (length (held L t img)) (L .frontSlots) (e .whole .full),
+          lt-ltb (largest (held L t img)) (t .key) (e .over),
           both-accepts b,
           h,
-          c,
-          picked t B f img,
-          leads .bucket,
-          leads .crumb,
+          ← k,
+          l .chosen,
+          inBack-choice L (t .size) (t .front .0) img (l .choice),
+          l .leads .bucket,
+          l .leads .crumb,
         )
+
+-- ---- the writes of a refill
+
+module _ {L : Layout} (fits : Fits64 L) {t : Target} {r : Refill} {img mid : List ℕ} (p : Refills L t r img)
+    (e : mid ≡ putFront L (t .front .0) (added (r .member .key) (removed (t .key) (inFront L (t .front .0) img))) img) where
+  swapped : FrontList L (added (r .member .key) (removed (t .key) (inFront L (t .front .0) img)))
+  swapped =
+      front-swapped L (t .key) (r .member .key) (inFront L (t .front .0) img) (p .swap .read .list) (at-copies (p .swap .read .list .order) (p .swap .stands)) (p .swap .key)
+
+  kept : inBack L (t .size) (r .member .way .bucket .0) mid ≡ inBack L (t .size) (r .member .way .bucket .0) img
+  kept = rw e (inBack-putFront L fits (t .front .0) (added (r .member .key) (removed (t .key) (inFront L (t .front .0) img))) img (p .swap .read .inside) swapped (t .size) (r .member .way .bucket .0)
+      (p .placed .within .front))
+
+  -- the member from behind still stands there once front is swapped
+  pub stands-kept : Stands L (t .size) (r .member) mid
+  stands-kept = record {
+    back = rw e (back-kept fits (t .front .0) (added (r .member .key) (removed (t .key) (inFront L (t .front .0) img))) img (p .swap .read .inside) swapped (t .size) (r .member .way .bucket .0)
+        (p .placed .within .front) (p .stands .back));
+    there = rw kept (p .stands .there);
+    slot = rw kept (p .stands .slot);
+    crumb = p .stands .crumb;
+    key = p .stands .key;
+  }
+
+  pub refilled-put : {now : List ℕ} → now ≡ without L (t .size) (r .member) mid → now ≡ refilled L t (r .member) img
+  unfolding without refilled
+  refilled-put q = q ∙ rw (kept, e)
+
+-- ---- what a plan said
+
+module _ (L : Layout) (t : Target) (img : List ℕ) {r : DeletePlan} (said : Plans L t img r) where
+  pub plan-refused : {why : Refusal} → r ≡ P.Refused why → deleteAt L (t .size) (t .front .0) (t .key) img ≡ refusal why
+  plan-refused e = rw e at said
+
+  pub plan-leaves : {slot : ℕ} → r ≡ P.Leaves slot → LeavesFront L t slot img
+  plan-leaves e = rw e at said
+
+  pub plan-refills : {q : Refill} → r ≡ P.Refills q → Refills L t q img
+  plan-refills e = rw e at said
+
+  pub plan-takes-out : {d : Departure} → r ≡ P.TakesOut d → TakesOut L t d img
+  plan-takes-out e = rw e at said

@@ -1,3 +1,4 @@
--- Laws of the steps of delete.
-pub mod DeleteSteps
+-- The laws of the steps of delete.
+pub mod ChoiceLaws
 pub mod LeavingLaws
+pub mod DeleteSteps

@@ -1,2 +1,2 @@
 -- The steps of delete.
-pub mod Deletions
+pub mod Steps

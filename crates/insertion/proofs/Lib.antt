@@ -1,2 +1,3 @@
--- Laws of the steps of insert.
+-- The laws of the steps of insert.
+pub mod TakerLaws
 pub mod InsertSteps

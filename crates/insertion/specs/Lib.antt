@@ -1,2 +1,2 @@
 -- The steps of insert.
-pub mod Insertions
+pub mod Steps

@@ -1,63 +1,33 @@
--- `deletion::delete::refill_from` meets its contract.
--- The front bucket's change keeps the backyard bucket (`back-kept`), from which the member then leaves.
+-- `deletion::delete::refill_from` meets its contract. The front bucket's change keeps the backyard bucket (`stands-kept`), from which the member then
+-- leaves.
 use borrow.Author.Needs.{needs}
-use Rattle.multiset.specs.Multisets.{added, removed}
-use Rattle.image.specs.ImageReads.{inFront}
-use Rattle.deletion.specs.Deletions.{takenOut, refilled}
-use Rattle.image.proofs.ImageReadLaws.{at-copies}
-use Rattle.image.proofs.ImageWriteLaws.{list-swapped, inBack-kept, back-kept}
+use Rattle.crumbmap.specs.Layouts.{layout1}
+use Rattle.buckets.proofs.BucketLaws.{fits1}
+use Rattle.deletion.proofs.DeleteSteps.{stands-kept, refilled-put}
 use Rattle.deletion.proofs.delete.refill_from.Statement.{statement}
 use Rattle.deletion.proofs.delete.refill_from.Tie as tie
 
-rank-without-requires : tie.Need-rank-without-requires
-rank-without-requires c κs =
-    let s = c .before .before in
-    (s .pre .front, at-copies (s .pre .front .read .list .order) (s .pre .here), s .pre .behind .key)
+-- the points of the walk: the start, front swapped
+abbrev start : tie.After-swap-front-at → tie.Start
+start c = c .before .before .before .before
 
-swap-front-at-requires : tie.Need-swap-front-at-requires
-swap-front-at-requires c κs = search needs
+abbrev swapped : tie.After-take-out-arg → tie.After-swap-front-at
+swapped c = c .before .before .before
 
 take-out-requires : tie.Need-take-out-requires
-take-out-requires c κs =
-    let c3 = c .before .before .before in
-    let s = c3 .before .before .before .before .before in
-    let t = s .args .target in
-    let img = s .args .image .now in
-    let xs = inFront (t .front .0) img in
-    let l = list-swapped (t .key) (s .args .key) xs (s .pre .front .read .list) (at-copies (s .pre .front .read .list .order) (s .pre .here)) (s .pre .behind .key) in
-    let zs = added (s .args .key) (removed (t .key) xs) in
-    let j = s .args .way .bucket .0 in
-    let p = s .pre .placed .within .front in
-    let b = s .pre .behind in
-    let kept = inBack-kept (t .front .0) zs img (s .pre .front .read .inside) l (t .size) j p in
-    rw (c3 .swap-front-at .ensures) (record {
-      back = back-kept (t .front .0) zs img (s .pre .front .read .inside) l (t .size) j p (b .back);
-      there = rw kept (b .there);
-      slot = rw kept (b .slot);
-      crumb = b .crumb;
-      key = b .key;
-    })
-
-same-length : tie.Need-same-length
-same-length c = search needs
+take-out-requires c κs = stands-kept fits1 (start (swapped c) .pre) (swapped c .swap-front-at .ensures)
 
 returns : tie.Need-returns
-unfolding takenOut refilled
 returns c =
-    let c6 = c .before .before .before .before .before .before in
-    let s = c6 .before .before .before .before .before in
-    let t = s .args .target in
-    let img = s .args .image .now in
-    let xs = inFront (t .front .0) img in
-    let l = list-swapped (t .key) (s .args .key) xs (s .pre .front .read .list) (at-copies (s .pre .front .read .list .order) (s .pre .here)) (s .pre .behind .key) in
-    let zs = added (s .args .key) (removed (t .key) xs) in (
-      c .before .before .take-out .ensures .0,
-      rw (
-        c6 .swap-front-at .ensures,
-        inBack-kept (t .front .0) zs img (s .pre .front .read .inside) l (t .size) (s .args .way .bucket .0) (s .pre .placed .within .front),
-      ) at (c .before .before .take-out .ensures .1),
-    )
+    let w = swapped (c .before .before .before) in
+    let e = c .before .before .take-out .ensures in
+    (e .0, refilled-put fits1 (start w .pre) (w .swap-front-at .ensures) (e .1))
 
 pub refill-from-spec : {M : Type 1} → statement M
 refill-from-spec =
-    tie.close (tie.spec rank-without-requires swap-front-at-requires take-out-requires same-length returns)
+    tie.close
+    (tie.spec
+    (λ c κs. search needs)
+    take-out-requires
+    (λ c. search needs)
+    returns)

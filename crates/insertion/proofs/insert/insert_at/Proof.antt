@@ -1,89 +1,72 @@
--- `insertion::insert::insert_at` meets its contract. The key joins the front bucket, or the front bucket is full.
+-- `insertion::insert::insert_at` meets its contract. What the plan says of the machine's insert is what is written.
 use mathlib.Core.Path.{_≡_, refl}
-use native.Mathlib.Omega.{arith}
-use lib.ListN.{length}
 use borrow.Author.Needs.{needs}
-use Rattle.multiset.specs.Multisets.{below}
-use Rattle.image.specs.ImageReads.{inFront, FrontRead}
-use Rattle.machine.specs.Machine.{insertAt}
-use Rattle.image.proofs.ImageReadLaws.{front-in, front-read, front-full, front-unsound, changes}
-use Rattle.insertion.proofs.InsertSteps.{insert-short}
+use Rattle.crumbmap.specs.Layouts.{layout1}
+use Rattle.image.specs.Steps.ImageReads.{FrontJoin}
+use Rattle.answers.proofs.ChangeLaws.{changes, change-refused}
+use Rattle.insertion.specs.Steps.Insertions.{Spills}
+use Rattle.insertion.proofs.InsertSteps.{insert-short, plan-refused, plan-joins, plan-spills}
 use Rattle.insertion.proofs.insert.insert_at.Statement.{statement}
 use Rattle.insertion.proofs.insert.insert_at.Tie as tie
 
-read-front-at-requires : tie.Need-read-front-at-requires
-read-front-at-requires c κs = let p = c .before .before .before .pre in (front-in (p .within), omega (arith, p .key))
+-- the points of the walk: the start, the plan made, and each of its cases
+abbrev start : tie.After-plan → tie.Start
+start c = c .before .before .before
 
-enum-known-n : tie.Need-enum-known-n
-enum-known-n c = search needs
+abbrev joining : tie.After-insert-front-at-arg → tie.After-plan
+joining c = c .before .before .before .before
 
-enum-told : tie.Need-enum-told
-enum-told c = search needs
+abbrev spilling : tie.After-spill-arg → tie.After-plan
+spilling c = c .before .before .before .before
 
-same-length : tie.Need-same-length
-same-length c = search needs
+joins : (c : tie.After-insert-front-at-arg) →
+    let a = start (joining c) .args in
+    FrontJoin layout1 (a .target .front .0) (c .before .before .slot .given .0 .0) (a .target .key) (a .image .now)
+joins c = let a = start (joining c) .args in plan-joins layout1 (a .target) (a .image .now) (joining c .plan .ensures) (c .before .before .slot .given .1)
 
-returns : tie.Need-returns
-unfolding insertAt
-returns c =
-    let c6 = c .before .before .before .before .before .before in
-    let a = c6 .args in
-    let u = front-unsound (a .target .front .0) (a .target .key) (a .image .now) (c .before .before .read-front-at .ensures) (c .enum-told .given .1) in
-    record { answer = rw u; bytes = rw u }
-
--- the front bucket was read
-front : (c : tie.After-known-told) →
-    let s = c .before .before .before .before .before .before .before in
-    let t = s .args .target in
-    FrontRead (t .front .0) (s .args .image .now) × (length (inFront (t .front .0) (s .args .image .now)) ≡ c .before .n .given .0 .0)
-    × (c .before .n .given .0 .1 .0 ≡ below (t .key) (inFront (t .front .0) (s .args .image .now)))
-front c =
-    let c3 = c .before .before .before in
-    let c7 = c3 .before .before .before .before in
-    front-read (c7 .args .target .front .0) (c7 .args .target .key) (c7 .args .image .now) (c3 .read-front-at .ensures) (c .before .n .given .1)
+spills : (c : tie.After-spill-arg) →
+    let a = start (spilling c) .args in
+    Spills layout1 (a .target) (c .before .before .spilling .given .0 .0) (a .image .now)
+spills c = let a = start (spilling c) .args in plan-spills layout1 (a .target) (a .image .now) (spilling c .plan .ensures) (c .before .before .spilling .given .1)
 
 insert-front-at-requires : tie.Need-insert-front-at-requires
-insert-front-at-requires c κs =
-    let c9 = c .before .before .before .before .before .before .before .before .before in
-    let r = front (c .before .before) in
-    (r .0, omega (arith, r .1), omega (arith, c9 .pre .key), r .2)
+insert-front-at-requires c κs = joins c
 
-same-length-2 : tie.Need-same-length-2
-same-length-2 c = search needs
+spill-requires : tie.Need-spill-requires
+spill-requires c κs = spills c
+
+returns : tie.Need-returns
+returns c =
+    let p = c .before .before .before in
+    let a = start p .args in
+    changes (plan-refused layout1 (a .target) (a .image .now) (p .plan .ensures) (c .before .why .given .1)) (change-refused (c .before .why .given .0 .0) (a .image .now))
 
 returns-2 : tie.Need-returns-2
 returns-2 c =
-    let c5 = c .before .before .before .before .before in
-    let c12 = c5 .before .before .before .before .before .before .before in
-    let a = c12 .args in
-    let r = front c5 in
-    changes (insert-short (a .target .size) (a .target .front .0) (a .target .key) (a .image .now) (r .0) (omega (arith, r .1)))
+    let j = c .before .before .before in
+    let a = start (joining j) .args in
+    changes (insert-short (a .target) (a .image .now) (joins j .read) (joins j .room))
     (record { answer = refl; bytes = c .before .before .insert-front-at .ensures })
 
-insert-full-requires : tie.Need-insert-full-requires
-insert-full-requires c κs =
-    let c9 = c .before .before .before .before .before .before .before .before .before in
-    let r = front (c .before .before) in
-    (c9 .pre, front-full (r .0) (r .1) (omega arith), r .2)
-
-same-length-3 : tie.Need-same-length-3
-same-length-3 c = search needs
-
 returns-3 : tie.Need-returns-3
-returns-3 c = search needs
+returns-3 c =
+    let j = c .before .before .before in
+    let e = c .before .before .spill .ensures in
+    changes (spills j .insert) (record { answer = rw (e .0); bytes = e .1 })
 
 pub insert-at-spec : {M : Type 1} → statement M
 insert-at-spec =
     tie.close
     (tie.spec
-    read-front-at-requires
-    enum-known-n
-    enum-told
-    same-length
-    returns
+    (λ c κs. search needs)
+    (λ c. search needs)
+    (λ c. search needs)
     insert-front-at-requires
-    same-length-2
+    (λ c. search needs)
+    spill-requires
+    (λ c. search needs)
+    returns
+    (λ c. search needs)
     returns-2
-    insert-full-requires
-    same-length-3
+    (λ c. search needs)
     returns-3)

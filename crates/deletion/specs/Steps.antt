@@ -1,0 +1,2 @@
+-- Inner steps of delete.
+pub mod Deletions

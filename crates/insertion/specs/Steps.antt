@@ -1,0 +1,2 @@
+-- Inner steps of insert.
+pub mod Insertions
