@@ -1,3 +1,4 @@
 -- Laws of the passes of a merge.
-pub mod MergeSteps
+pub mod CheckedImages
 pub mod JoinLaws
+pub mod MergeSteps

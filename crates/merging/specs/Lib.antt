@@ -1,2 +1,2 @@
 -- The passes of a merge.
-pub mod Merging
+pub mod Steps

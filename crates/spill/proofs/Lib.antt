@@ -1,5 +1,4 @@
--- Laws of what stays, what leaves and what is pushed behind.
+-- Laws of two lists that share a front bucket, and of keys pushed behind it.
 pub mod SpillSteps
-pub mod SpillLaws
 pub mod SettleLaws
 pub mod PushLaws

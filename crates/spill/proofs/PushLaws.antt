@@ -1,161 +1,153 @@
--- Keys put behind a front bucket whose two backyard buckets are sound, and what settled lists leave in front.
--- Main results: `behind-filled`; `push-stuck`, `push-to` and `push-keeps`; `pushes-next`; `settled-mergeable` and `settled-front`.
-use mathlib.Core.Path.{_≡_, refl, sym, _∙_}
-use Prim.Native.Nat.{ℕ, _+_, _*_, _-_, _≤_, _<_}
-use mathlib.Core.Bool.{Bool, true, false, cond, _&&_}
-use mathlib.Core.List.{List, _++_}
-use mathlib.Core.Option.{some}
-use native.Mathlib.Numerals.{add-one}
+-- Keys put behind a front bucket whose two backyard buckets were read, for any layout: both stay readable when the front bucket or one of them is
+-- written, and a push is what the taker of its key says.
+-- Main results: `backyard-filled`; `push-stuck`, `push-to` and `push-keeps`.
+use mathlib.Core.Path.{_≡_, sym, _∙_, ap}
+use Prim.Native.Nat.{ℕ, _+_, _*_, _≤_, _<_}
+use mathlib.Core.Bool.{Bool, true, false}
+use mathlib.Core.List.{List, [], _∷_}
+use mathlib.Core.Option.{none, some}
 use native.Mathlib.Omega.{arith}
 use native.Mathlib.Decide.{ℕ-discrete}
-use lib.ListN.{length, take, drop, getD}
-use lib.Seq.{drop-cons, take-at, length-take-le}
-use lib.Dec.{T, ltb, eqb}
-use borrow.Author.Tests.{eq-eqb}
-use Rattle.multiset.specs.Multisets.{added, ascending}
-use Rattle.crumbmap.specs.Layouts.{Layout, layout1, keys, fronts}
+use lib.ListN.{length}
+use Rattle.multiset.specs.Multisets.{added}
+use Rattle.crumbmap.specs.Layouts.{Layout, keys, fronts}
 use Rattle.crumbmap.specs.CrumbMap.{firstBucket, secondBucket, bucketOf, crumbOf}
-use Rattle.crumbmap.specs.Places.{Leads}
+use Rattle.crumbmap.specs.Steps.Places.{Leads}
 use Rattle.crumbmap.specs.declared.Overflow.{Overflow}
-use Rattle.buckets.specs.Buckets.{backMembers, backBytes, FrontList, BackList}
-use Rattle.minifilter.specs.Readings.{backList}
-use Rattle.buckets.proofs.BucketLaws.{fits1, length-backBytes, backMembers-backBytes, read-back}
-use Rattle.machine.specs.Results.{accepted, refused, andThen}
-use Rattle.machine.specs.Images.{bucketAt, backAt, putFront, putBack}
-use Rattle.machine.specs.Bags.{addedAll}
-use Rattle.image.specs.ImageReads.{inBack, BackIn, BackRead}
-use Rattle.listing.specs.Listings.{BehindRead}
-use Rattle.spill.specs.Spills.{stays, pushAt, pushAll, Settled}
-use Rattle.spill.specs.declared.Split.{Split}
-use Rattle.machine.proofs.BagLaws.{length-addedAll}
-use Rattle.machine.proofs.ImageLaws.{length-put, bucketAt-put, bucketAt-put-other}
-use Rattle.machine.proofs.Members.{back-added}
-use Rattle.image.proofs.ImageReadLaws.{front-in, both-accepts, chosen-read}
-use Rattle.image.proofs.ImageWriteLaws.{length-putFront, back-kept}
-use Rattle.spill.proofs.SettleLaws.{ascending-take}
+use Rattle.buckets.specs.Buckets.{Fits64, backList, FrontList, BackList}
+use Rattle.buckets.proofs.BucketLaws.{length-backBytes, backMembers-backBytes, backList-members}
+use Rattle.machine.specs.Results.{accepted, refused}
+use Rattle.machine.specs.Images.{bucketAt, backAt, inBack, putFront, putBack}
+use Rattle.machine.specs.Machine.{taker, takeIn}
+use Rattle.machine.specs.Steps.Spills.{pushAll}
+use Rattle.machine.proofs.BucketWrites.{length-putFront, length-putBack, bucketAt-putBack, bucketAt-putBack-other}
+use Rattle.machine.proofs.Members.{inBack-choice, back-added}
+use Rattle.machine.proofs.TakeLaws.{pushAt-read}
+use Rattle.machine.proofs.SpillLaws.{pushAll-one}
+use Rattle.image.specs.Steps.ImageReads.{Whole, BackIn, BackRead}
+use Rattle.image.proofs.ImageReadLaws.{front-in, both-accepts, chosen-read, chosen-way}
+use Rattle.image.proofs.ImageWriteLaws.{back-kept}
+use Rattle.insertion.proofs.TakerLaws.{taker-room}
+use Rattle.listing.specs.Steps.Listings.{BackyardRead}
+use Rattle.spill.specs.Steps.Settling.{Joinable}
 
--- ---- a backyard bucket after one was written
+-- an image of size B with as many bytes
+pub whole-alike : {B : ℕ} {img now : List ℕ} → length now ≡ length img → Whole B img → Whole B now
+whole-alike e w = record { long = e ∙ w .long; some = w .some; small = w .small }
 
-module _ (B j : ℕ) (ys img : List ℕ) (within : BackIn B j img) (list : BackList layout1 B j ys) where
+-- ---- both backyard buckets after a write
+
+-- backyard bucket j written
+module _ {L : Layout} (fits : Fits64 L) {B j : ℕ} {img : List ℕ} (within : BackIn B j img) (ys : List ℕ) (list : BackList L B j ys) where
   abbrev now : List ℕ
-  now = putBack layout1 B j ys img
-
-  long : length (backBytes layout1 ys) ≡ 64
-  long = length-backBytes layout1 fits1 ys (list .room)
+  now = putBack L B j ys img
 
   length-now : length now ≡ length img
-  unfolding putBack
-  length-now = length-put (fronts B + j) (backBytes layout1 ys) img long (within .inside)
+  length-now = length-putBack L fits B j ys img (within .inside) list
 
-  at-put : bucketAt (fronts B + j) now ≡ backBytes layout1 ys
-  unfolding putBack
-  at-put = bucketAt-put (fronts B + j) (backBytes layout1 ys) img long (within .inside)
+  inside-now : {k : ℕ} → BackIn B k img → BackIn B k now
+  inside-now w = record { small = w .small; bucket = w .bucket; inside = rw length-now (w .inside) }
 
-  members : backMembers layout1 B j (backBytes layout1 ys) ≡ some ys
-  members = backMembers-backBytes layout1 fits1 B j ys list
-
-  listed : backList (backBytes layout1 ys) ≡ ys
-  unfolding backList
-  listed = let r = read-back layout1 B j (backBytes layout1 ys) ys members in rw (r .slots) (r .members)
-
-  back-put : BackRead B j now
+  back-put : BackRead L B j now
   unfolding backAt
-  back-put = record {
-    within = record { small = within .small; bucket = within .bucket; inside = rw length-now (within .inside) };
-    accepts = rw (at-put, listed, members);
-    sound = rw at-put (record { size = B; bucket = j; long = long; sound = rw listed members });
-    list = rw (at-put, listed) list;
-  }
+  back-put =
+      let at = bucketAt-putBack L fits B j ys img (within .inside) list in
+      let members = backMembers-backBytes L fits B j ys list in
+      let listed = backList-members L B j _ ys members in record {
+        within = inside-now within;
+        accepts = rw (at, listed, members);
+        sound = rw at (record { size = B; bucket = j; long = length-backBytes L fits ys (list .room); sound = rw listed members });
+        list = rw (at, listed) list;
+      }
 
-  back-other : (k : ℕ) → (k ≡ j → ⊥) → BackRead B k img → BackRead B k now
-  unfolding backAt putBack
-  back-other k n r =
-      let e = bucketAt-put-other (fronts B + j) (fronts B + k) (backBytes layout1 ys) img long (within .inside) (λ p. n (omega arith)) in record {
-        within = record { small = r .within .small; bucket = r .within .bucket; inside = rw length-now (r .within .inside) };
+  back-other : {k : ℕ} → (k ≡ j → ⊥) → BackRead L B k img → BackRead L B k now
+  unfolding backAt
+  back-other {k} n r =
+      let e = bucketAt-putBack-other L fits B j ys img (within .inside) list (fronts B + k) (λ p. n (omega arith)) in record {
+        within = inside-now (r .within);
         accepts = rw e (r .accepts);
         sound = rw e (r .sound);
         list = rw e (r .list);
       }
 
-  back-still : (k : ℕ) → BackRead B k img → BackRead B k now
-  back-still k r = elim (ℕ-discrete k j) [ yes p ↦ rw p back-put | no n ↦ back-other k n r ]
+  back-still : {k : ℕ} → BackRead L B k img → BackRead L B k now
+  back-still {k} r = elim (ℕ-discrete k j) [ yes p ↦ rw p back-put | no n ↦ back-other n r ]
 
--- both backyard buckets, after the front bucket was written
-pub behind-filled : {B f : ℕ} {img now : List ℕ} (zs : List ℕ) → FrontList layout1 zs → BehindRead B f img → now ≡ putFront layout1 f zs img → BehindRead B f now
-behind-filled {B} {f} {img} zs list r e =
+  backyard-put : {f : ℕ} → BackyardRead L B f img → BackyardRead L B f now
+  backyard-put r = record {
+    within = record { whole = whole-alike length-now (r .within .whole); front = r .within .front };
+    both = record { first = back-still (r .both .first); second = back-still (r .both .second) };
+  }
+
+-- the front bucket written
+pub backyard-filled : {L : Layout} → Fits64 L → {B f : ℕ} {img now : List ℕ} (zs : List ℕ) → FrontList L zs → BackyardRead L B f img
+    → now ≡ putFront L f zs img → BackyardRead L B f now
+backyard-filled {L} fits {B} {f} {img} zs list r e =
     let inside = front-in (r .within) in
     let h = r .within .front in
     rw e record {
-      within = record { whole = record { long = length-putFront f zs img inside list ∙ r .within .whole .long; small = r .within .whole .small }; front = h };
-      both = record { first = back-kept f zs img inside list B (firstBucket f) h (r .both .first); second = back-kept f zs img inside list B (secondBucket B f) h (r .both .second) };
+      within = record { whole = whole-alike (length-putFront L fits f zs img inside list) (r .within .whole); front = h };
+      both = record {
+        first = back-kept fits f zs img inside list B (firstBucket f) h (r .both .first);
+        second = back-kept fits f zs img inside list B (secondBucket B f) h (r .both .second);
+      };
     }
 
 -- ---- a push
 
-module _ {B f : ℕ} {img : List ℕ} (r : BehindRead B f img) (v : ℕ) where
-  abbrev n0 : ℕ
-  n0 = length (inBack B (firstBucket f) img)
+-- both backyard buckets of f were read, and hold n0 and n1 members
+pub record Holding (L : Layout) (B f : ℕ) (img : List ℕ) (n0 n1 : ℕ) : Type 0 where
+  pub read : BackyardRead L B f img
+  pub first : n0 ≡ length (inBack L B (firstBucket f) img)
+  pub second : n1 ≡ length (inBack L B (secondBucket B f) img)
 
-  abbrev n1 : ℕ
-  n1 = length (inBack B (secondBucket B f) img)
+-- counted in lent bytes, which are those of the buckets that the choices lead to
+pub holding : {L : Layout} {B f n0 n1 : ℕ} {img p q : List ℕ} {w v : Overflow} → BackyardRead L B f img → Leads true B f w → Leads false B f v
+    → p ≡ bucketAt (fronts B + w .bucket .0) img → n0 ≡ length (backList L p)
+    → q ≡ bucketAt (fronts B + v .bucket .0) img → n1 ≡ length (backList L q) → Holding L B f img n0 n1
+holding {L} {B} {f} {n0} {n1} {img} r x y d i e k =
+    let held : List ℕ → ℕ = λ b. length (backList L b) in
+    let many : ℕ → ℕ = λ j. length (inBack L B j img) in
+    record { read = r; first = i ∙ ap held d ∙ ap many (x .bucket); second = k ∙ ap held e ∙ ap many (y .bucket) }
 
-  pub push-stuck : n0 ≡ 22 → n1 ≡ 22 → refused 4 0 ≡ pushAt layout1 B f v img
-  unfolding pushAt
-  push-stuck h k = sym (rw (both-accepts (r .both), eq-eqb n0 22 h, eq-eqb n1 22 k))
+module _ {L : Layout} {B f n0 n1 : ℕ} {img : List ℕ} (h : Holding L B f img n0 n1) where
+  pub holding-few : (n0 ≤ L .backSlots) × (n1 ≤ L .backSlots)
+  holding-few = (omega (arith, h .first, h .read .both .first .list .room), omega (arith, h .second, h .read .both .second .list .room))
 
-  picked : (t : Bool) → cond t (inBack B (firstBucket f) img) (inBack B (secondBucket B f) img) ≡ inBack B (bucketOf t B f) img
-  picked true = refl
-  picked false = refl
+  pub push-stuck : (v : ℕ) → taker L n0 n1 ≡ none → refused 4 0 ≡ pushAll L B f (v ∷ []) img
+  unfolding takeIn
+  push-stuck v e =
+      sym (rw (pushAll-one L B f v img, pushAt-read L B f v img _ _ (both-accepts (h .read .both)), ← h .first, ← h .second, e))
 
-  module _ (t : Bool) {w : Overflow} (leads : Leads t B f w) where
-    -- the key joined the backyard bucket of a choice
+  taker-left : (t : Bool) → taker L n0 n1 ≡ some t → length (inBack L B (bucketOf t B f) img) < L .backSlots
+  taker-left true e = omega (arith, h .first, taker-room L n0 n1 (holding-few .0) (holding-few .1) true e)
+  taker-left false e = omega (arith, h .second, taker-room L n0 n1 (holding-few .0) (holding-few .1) false e)
+
+  -- the key joins the backyard bucket of choice t
+  module _ (v : ℕ) (t : Bool) {w : Overflow} (leads : Leads t B f w) (e : taker L n0 n1 ≡ some t) where
     abbrev after : List ℕ
-    after = putBack layout1 B (w .bucket .0) (added (v * 16 + w .crumb) (inBack B (w .bucket .0) img)) img
+    after = putBack L B (w .bucket .0) (added (v * 16 + w .crumb) (inBack L B (w .bucket .0) img)) img
 
-    pub push-to : eqb n0 22 && eqb n1 22 ≡ false → ltb n0 n1 ≡ t → accepted after ≡ pushAt layout1 B f v img
-    unfolding pushAt
-    push-to e h = sym (rw (both-accepts (r .both), e, h, picked t, leads .bucket, leads .crumb))
+    pub push-to : accepted after ≡ pushAll L B f (v ∷ []) img
+    unfolding takeIn
+    push-to =
+        sym (rw (
+          pushAll-one L B f v img,
+          pushAt-read L B f v img _ _ (both-accepts (h .read .both)),
+          ← h .first,
+          ← h .second,
+          e,
+          inBack-choice L B f img t,
+          leads .bucket,
+          leads .crumb,
+        ))
 
-    pub push-keeps : v < keys layout1 → length (inBack B (w .bucket .0) img) < 22 → BehindRead B f after
-    push-keeps k room =
-        let j : ℕ = bucketOf t B f in
-        let ys : List ℕ = inBack B j img in
-        let here : BackRead B j img = chosen-read (r .both) t in
-        let list : BackList layout1 B j (added (v * 16 + crumbOf t f) ys) =
-        back-added layout1 B f v t ys (here .list) (r .within .front) k (rw (leads .bucket) at room) in
-        let still = back-still B j (added (v * 16 + crumbOf t f) ys) img (here .within) list in
-        rw (leads .bucket, leads .crumb) record {
-          within = record {
-            whole = record { long = length-now B j (added (v * 16 + crumbOf t f) ys) img (here .within) list ∙ r .within .whole .long; small = r .within .whole .small };
-            front = r .within .front;
-          };
-          both = record { first = still (firstBucket f) (r .both .first); second = still (secondBucket B f) (r .both .second) };
-        }
+    pub push-joinable : v < keys L → Joinable L B w v img
+    push-joinable k = record { read = chosen-way (h .read .both) t leads; room = rw (leads .bucket) (taker-left t e); crumb = leads .small; key = k }
 
--- the key at i comes next
-pub pushes-next : (L : Layout) (B f i : ℕ) (vs img : List ℕ) → i < length vs
-    → pushAll L B f (drop i vs) img ≡ andThen (pushAt L B f (getD vs i 0) img) (pushAll L B f (drop (i + 1) vs))
-unfolding pushAll
-pushes-next L B f i vs img l = rw (drop-cons vs i 0 l, add-one i)
-
--- ---- two lists of keys that share a front bucket
-
-module _ {a b over : List ℕ} {r : Split} (s : Settled a b r over) where
-  kept-length : length (take (r .kept) a) ≡ r .kept
-  kept-length = length-take-le (r .kept) a (s .kept)
-
-  taken-length : length (take (r .taken) b) ≡ r .taken
-  taken-length = length-take-le (r .taken) b (s .taken)
-
-  pub settled-mergeable : T (ascending a) → T (ascending b)
-      → T (ascending (take (r .kept) a)) × T (ascending (take (r .taken) b)) × (length (take (r .kept) a) + length (take (r .taken) b) ≤ 28)
-  settled-mergeable p q =
-      (ascending-take (r .kept) a p, ascending-take (r .taken) b q, omega (arith, kept-length, taken-length, s .room))
-
-  -- merged, they are what stays
-  pub settled-front : (rest keys : List ℕ) → keys ≡ addedAll (take (r .kept) a) (take (r .taken) b) ++ rest
-      → take (r .kept + r .taken) keys ≡ stays 28 b a
-  settled-front rest keys e =
-      let both : List ℕ = addedAll (take (r .kept) a) (take (r .taken) b) in
-      let n : length both ≡ r .kept + r .taken = omega (arith, length-addedAll (take (r .kept) a) (take (r .taken) b), kept-length, taken-length) in
-      rw e (take-at both rest (r .kept + r .taken) n ∙ s .front)
+    pub push-keeps : Fits64 L → v < keys L → BackyardRead L B f after
+    push-keeps fits k =
+        let here : BackRead L B (bucketOf t B f) img = chosen-read (h .read .both) t in
+        let ys : List ℕ = inBack L B (bucketOf t B f) img in
+        let list = back-added L B f v t ys (here .list) (h .read .within .front) k (taker-left t e) in
+        rw (leads .bucket, leads .crumb) (backyard-put fits (here .within) (added (v * 16 + crumbOf t f) ys) list (h .read))

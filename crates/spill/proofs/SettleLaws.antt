@@ -1,5 +1,6 @@
 -- The turns of `settle`: after i keys of b were put in after a, what stays is the first `kept` of a and the first `taken` of b.
--- Main results: `settling-start`, `settling-room`, `settling-way`, `settling-stop` and `settling-end`, and `way-none` and `way-last` for `gives_way`.
+-- Main results: `settling-start`, `settling-room`, `settling-way`, `settling-stop` and `settling-end`, and `way-none` and `way-last` for `gives_way`;
+-- what settled lists leave in front, `settled-mergeable` and `settled-front`.
 use mathlib.Core.Path.{_≡_, refl, sym, _∙_, ap}
 use Prim.Native.Nat.{ℕ, zero, suc, _+_, _-_, _≤_, _<_}
 use mathlib.Core.Bool.{true, false}
@@ -8,72 +9,21 @@ use native.Mathlib.Numerals.{add-one}
 use native.Mathlib.Omega.{arith}
 use native.Mathlib.Decide.{decLe, ℕ-discrete}
 use lib.ListN.{length, take, getD, set, length-set}
-use lib.Seq.{take-all, take-suc, take-suc-set, length-take-le}
+use lib.Seq.{take-all, take-at, take-suc, take-suc-set, length-take-le}
 use lib.Dec.{T, ltb}
 use borrow.Author.Tests.{le-ltb, ltb-true, ltb-false}
 use Rattle.multiset.specs.Multisets.{added, removed, copies, largest, ascending}
-use Rattle.multiset.proofs.MultisetLaws.{hit-same, hit-other, hit-equal, copies-cons, copies-append, copies-added, copies-removed, largest-max, largest-added, removed-added, head-least, ascending-tail, ascending-cons, ascending-added, ascending-removed, ascending-unique}
+use Rattle.multiset.proofs.MultisetLaws.{hit-same, copies-one, copies-append, copies-added, copies-removed, removed-added}
+use Rattle.multiset.proofs.OrderLaws.{ascending-added, ascending-removed, ascending-unique}
+use Rattle.multiset.proofs.OrderLaws.{largest-max, largest-added, largest-is, largest-added-most}
+use Rattle.multiset.proofs.SlotLaws.{ascending-take, ascending-at, first-le, largest-first}
+use Rattle.crumbmap.specs.Layouts.{Layout, mostMembers}
 use Rattle.machine.specs.Bags.{addedAll}
-use Rattle.machine.proofs.BagLaws.{copies-addedAll, length-addedAll, ascending-addedAll}
-use Rattle.spill.specs.Spills.{stays, goes, Settled}
-use Rattle.listing.proofs.MergedLists.{addedAll-nil}
-use Rattle.spill.proofs.SpillLaws.{copies-one, largest-is, largest-last, stays-room, stays-full, goes-room, goes-full, stays-append, goes-append}
-
--- ---- the first members of an ascending list
-
-copies-take : (z k : ℕ) (xs : List ℕ) → 0 < copies z (take k xs) → 0 < copies z xs
-unfolding copies
-copies-take z zero xs c = absurd (omega arith)
-copies-take z (suc k) [] c = c
-copies-take z (suc k) (x ∷ xs) c = elim (ℕ-discrete z x) [
-  | yes e ↦ omega (arith, copies-cons z x xs, hit-equal z x e)
-  | no n ↦ omega (arith, copies-cons z x xs, copies-take z k xs (omega (arith, copies-cons z x (take k xs), hit-other z x n)))
-]
-
-pub ascending-take : (k : ℕ) (xs : List ℕ) → T (ascending xs) → T (ascending (take k xs))
-unfolding ascending
-ascending-take zero xs a = tt
-ascending-take (suc k) [] a = tt
-ascending-take (suc k) (x ∷ xs) a =
-    ascending-cons x (take k xs) (λ z c. head-least z x xs a (omega (arith, copies-cons z x xs, copies-take z k xs c)))
-    (ascending-take k xs (ascending-tail x xs a))
-
-copies-at : (i : ℕ) (xs : List ℕ) → i < length xs → 0 < copies (getD xs i 0) xs
-copies-at i [] l = absurd (omega arith)
-copies-at zero (x ∷ xs) l = omega (arith, copies-cons x x xs, hit-same x)
-copies-at (suc i) (x ∷ xs) l = omega (arith, copies-cons (getD xs i 0) x xs, copies-at i xs (omega arith))
-
-ascending-at : (i j : ℕ) (xs : List ℕ) → T (ascending xs) → i ≤ j → j < length xs → getD xs i 0 ≤ getD xs j 0
-ascending-at i j [] a l h = absurd (omega arith)
-ascending-at zero j (x ∷ xs) a l h = head-least (getD (x ∷ xs) j 0) x xs a (copies-at j (x ∷ xs) h)
-ascending-at (suc i) zero (x ∷ xs) a l h = absurd (omega arith)
-ascending-at (suc i) (suc j) (x ∷ xs) a l h = ascending-at i j xs (ascending-tail x xs a) (omega arith) (omega arith)
-
--- the first k are at most the member behind them
-take-le : (z k i : ℕ) (xs : List ℕ) → T (ascending xs) → k ≤ i → i < length xs → 0 < copies z (take k xs) → z ≤ getD xs i 0
-unfolding copies
-take-le z k i [] a l h c = absurd (omega arith)
-take-le z zero i (x ∷ xs) a l h c = absurd (omega arith)
-take-le z (suc k) zero (x ∷ xs) a l h c = absurd (omega arith)
-take-le z (suc k) (suc i) (x ∷ xs) a l h c = elim (ℕ-discrete z x) [
-  | yes e ↦ omega (arith, ascending-at 0 (suc i) (x ∷ xs) a (omega arith) h)
-  | no n ↦ take-le z k i xs (ascending-tail x xs a) (omega arith) (omega arith) (omega (arith, copies-cons z x (take k xs), hit-other z x n))
-]
-
--- the largest of the first is the last of them
-largest-take : (k : ℕ) (xs : List ℕ) → k < length xs → largest (take (suc k) xs) ≡ getD xs k 0
-unfolding largest
-largest-take k [] h = absurd (omega arith)
-largest-take zero (x ∷ xs) h = refl
-largest-take (suc k) (x ∷ []) h = absurd (omega arith)
-largest-take (suc k) (x ∷ y ∷ ys) h = largest-take k (y ∷ ys) (omega arith)
-
-pub largest-first : (k : ℕ) (xs : List ℕ) → 0 < k → k ≤ length xs → largest (take k xs) ≡ getD xs (k - 1) 0
-largest-first k xs p h =
-    let e : k ≡ suc (k - 1) = omega arith in
-    ap (λ (n : ℕ). largest (take n xs)) e ∙ largest-take (k - 1) xs (omega arith)
-
--- ---- the turns
+use Rattle.machine.specs.Steps.Spills.{stays, goes}
+use Rattle.machine.proofs.BagLaws.{copies-addedAll, length-addedAll, ascending-addedAll, addedAll-nil}
+use Rattle.machine.proofs.StayLaws.{stays-room, stays-full, goes-room, goes-full, stays-append, goes-append}
+use Rattle.spill.specs.Steps.Settling.{Sharing, Settled}
+use Rattle.spill.specs.declared.Split.{Split}
 
 pub way-none : (k x : ℕ) (xs : List ℕ) → k ≡ 0 → false ≡ ltb x (largest (take k xs))
 unfolding largest
@@ -82,42 +32,42 @@ way-none k x xs e = sym (rw e (le-ltb x 0 (omega arith)))
 pub way-last : (k x : ℕ) (xs : List ℕ) → (k ≡ 0 → ⊥) → k ≤ length xs → ltb x (getD xs (k - 1) 0) ≡ ltb x (largest (take k xs))
 way-last k x xs n h = sym (ap (ltb x) (largest-first k xs (omega arith) h))
 
-pub record Settling (a b over : List ℕ) (kept taken gone i : ℕ) : Type 0 where
+pub record Settling (L : Layout) (a b over : List ℕ) (kept taken gone i : ℕ) : Type 0 where
   pub some-kept : kept ≤ length a
   pub some-taken : taken ≤ i
   pub some-done : i ≤ length b
-  pub room : kept + taken ≤ 28
+  pub room : kept + taken ≤ L .frontSlots
   pub some-gone : gone ≤ i
-  pub long : length over ≡ 72
-  pub front : addedAll (take kept a) (take taken b) ≡ stays 28 (take i b) a
-  pub leaves : take gone over ≡ goes 28 (take i b) a
+  pub long : length over ≡ mostMembers L
+  pub front : addedAll (take kept a) (take taken b) ≡ stays (L .frontSlots) (take i b) a
+  pub leaves : take gone over ≡ goes (L .frontSlots) (take i b) a
   -- the first key of b that did not stay, and with it all later ones, are at least what is kept of a
-  pub turn : taken < i → (kept + taken ≡ 28) × (largest (take kept a) ≤ getD b taken 0)
+  pub turn : taken < i → (kept + taken ≡ L .frontSlots) × (largest (take kept a) ≤ getD b taken 0)
 
-module _ (a b over : List ℕ) (order-a : T (ascending a)) (order-b : T (ascending b)) (few-a : length a ≤ 28) (few-b : length b ≤ 72) where
-  pub settling-start : length over ≡ 72 → Settling a b over (length a) 0 0 0
+module _ {L : Layout} {a b spare : List ℕ} (share : Sharing L a b spare) where
+  pub settling-start : Settling L a b spare (length a) 0 0 0
   unfolding stays goes
-  settling-start l = record {
+  settling-start = record {
     some-kept = omega arith;
     some-taken = omega arith;
     some-done = omega arith;
-    room = omega arith;
+    room = omega (arith, share .front .room);
     some-gone = omega arith;
-    long = l;
-    front = rw (take-all (length a) a (omega arith)) (addedAll-nil a order-a);
+    long = share .spare;
+    front = rw (take-all (length a) a (omega arith)) (addedAll-nil a (share .front .order));
     leaves = refl;
     turn = λ h. absurd (omega arith);
   }
 
-  module _ (kept taken gone i : ℕ) (s : Settling a b over kept taken gone i) where
-    pub settling-end : length b ≤ i → Settled a b (record { kept = kept; taken = taken; gone = gone }) over
+  module _ {over : List ℕ} {kept taken gone i : ℕ} (s : Settling L a b over kept taken gone i) where
+    pub settling-end : length b ≤ i → Settled L a b (record { kept = kept; taken = taken; gone = gone }) over
     settling-end h = record {
       kept = s .some-kept;
       taken = omega (arith, s .some-taken, s .some-done);
       room = s .room;
-      gone = omega (arith, s .some-gone, s .some-done);
-      front = s .front ∙ ap (λ (l : List ℕ). stays 28 l a) (take-all i b h);
-      leaves = s .leaves ∙ ap (λ (l : List ℕ). goes 28 l a) (take-all i b h);
+      gone = omega (arith, s .some-gone, s .some-done, share .after .room);
+      front = s .front ∙ ap (λ (l : List ℕ). stays (L .frontSlots) l a) (take-all i b h);
+      leaves = s .leaves ∙ ap (λ (l : List ℕ). goes (L .frontSlots) l a) (take-all i b h);
     }
 
     module _ (h : i < length b) where
@@ -134,7 +84,7 @@ module _ (a b over : List ℕ) (order-a : T (ascending a)) (order-b : T (ascendi
       ws = addedAll mine theirs
 
       ws-order : T (ascending ws)
-      ws-order = ascending-addedAll mine theirs (ascending-take taken b order-b)
+      ws-order = ascending-addedAll mine theirs (ascending-take taken b (share .after .order))
 
       ws-length : length ws ≡ kept + taken
       ws-length =
@@ -146,17 +96,17 @@ module _ (a b over : List ℕ) (order-a : T (ascending a)) (order-b : T (ascendi
           )
 
       -- key x comes after the first i
-      next-stays : stays 28 (take (i + 1) b) a ≡ stays 28 (x ∷ []) ws
-      next-stays = rw (add-one i, take-suc b i 0 h, stays-append 28 (take i b) (x ∷ []) a, s .front)
+      next-stays : stays (L .frontSlots) (take (i + 1) b) a ≡ stays (L .frontSlots) (x ∷ []) ws
+      next-stays = rw (add-one i, take-suc b i 0 h, stays-append (L .frontSlots) (take i b) (x ∷ []) a, s .front)
 
-      next-goes : goes 28 (take (i + 1) b) a ≡ goes 28 (take i b) a ++ goes 28 (x ∷ []) ws
-      next-goes = rw (add-one i, take-suc b i 0 h, goes-append 28 (take i b) (x ∷ []) a, s .front)
+      next-goes : goes (L .frontSlots) (take (i + 1) b) a ≡ goes (L .frontSlots) (take i b) a ++ goes (L .frontSlots) (x ∷ []) ws
+      next-goes = rw (add-one i, take-suc b i 0 h, goes-append (L .frontSlots) (take i b) (x ∷ []) a, s .front)
 
-      gone-in : gone < 72
-      gone-in = omega (arith, s .some-gone)
+      gone-in : gone < mostMembers L
+      gone-in = omega (arith, s .some-gone, share .after .room)
 
       -- and v leaves
-      left-on : (v : ℕ) → goes 28 (x ∷ []) ws ≡ v ∷ [] → take (gone + 1) (set over gone v) ≡ goes 28 (take (i + 1) b) a
+      left-on : (v : ℕ) → goes (L .frontSlots) (x ∷ []) ws ≡ v ∷ [] → take (gone + 1) (set over gone v) ≡ goes (L .frontSlots) (take (i + 1) b) a
       left-on v e = rw (add-one gone, take-suc-set over gone v (omega (arith, s .long, gone-in)), next-goes, e, s .leaves)
 
       -- x stays: all of b so far do
@@ -170,14 +120,22 @@ module _ (a b over : List ℕ) (order-a : T (ascending a)) (order-b : T (ascendi
         with-x : addedAll mine (take (taken + 1) b) ≡ added x ws
         with-x =
             ascending-unique (addedAll mine (take (taken + 1) b)) (added x ws)
-            (ascending-addedAll mine (take (taken + 1) b) (ascending-take (taken + 1) b order-b)) (ascending-added x ws ws-order)
-            (λ z. omega (arith, copies-addedAll z mine (take (taken + 1) b), copies-theirs z, copies-one z x, copies-added z x ws, copies-addedAll z mine theirs))
+            (ascending-addedAll mine (take (taken + 1) b) (ascending-take (taken + 1) b (share .after .order))) (ascending-added x ws ws-order)
+            (λ z. omega (
+              arith,
+              copies-addedAll z mine (take (taken + 1) b),
+              copies-theirs z,
+              copies-one z x,
+              copies-added z x ws,
+              copies-addedAll z mine theirs,
+            ))
 
-      pub settling-room : kept + taken < 28 → Settling a b over kept (taken + 1) gone (i + 1)
+      pub settling-room : kept + taken < L .frontSlots → Settling L a b over kept (taken + 1) gone (i + 1)
       unfolding stays goes
       settling-room r =
-          let e : taken ≡ i = elim (decLe i taken) [ yes l ↦ omega (arith, s .some-taken) | no n ↦ absurd (omega (arith, s .turn (omega arith) .0)) ] in
-          let l : length ws < 28 = omega (arith, ws-length) in
+          let e : taken ≡ i =
+          elim (decLe i taken) [ yes l ↦ omega (arith, s .some-taken) | no n ↦ absurd (omega (arith, s .turn (omega arith) .0)) ] in
+          let l : length ws < L .frontSlots = omega (arith, ws-length) in
           record {
             some-kept = s .some-kept;
             some-taken = omega (arith, s .some-taken);
@@ -185,16 +143,16 @@ module _ (a b over : List ℕ) (order-a : T (ascending a)) (order-b : T (ascendi
             room = omega arith;
             some-gone = omega (arith, s .some-gone);
             long = s .long;
-            front = with-x e ∙ sym (next-stays ∙ stays-room 28 x [] ws l);
-            leaves = s .leaves ∙ sym (next-goes ∙ rw (goes-room 28 x [] ws l) (append-nil (goes 28 (take i b) a)));
+            front = with-x e ∙ sym (next-stays ∙ stays-room (L .frontSlots) x [] ws l);
+            leaves = s .leaves ∙ sym (next-goes ∙ rw (goes-room (L .frontSlots) x [] ws l) (append-nil (goes (L .frontSlots) (take i b) a)));
             turn = λ k. absurd (omega arith);
           }
 
       theirs-le : (z : ℕ) → 0 < copies z theirs → z ≤ x
-      theirs-le z c = take-le z taken i b order-b (s .some-taken) h c
+      theirs-le z c = first-le z taken i b (share .after .order) (s .some-taken) h c
 
       mine-le : (z : ℕ) → 0 < copies z mine → z ≤ largest mine
-      mine-le z c = largest-max z mine (ascending-take kept a order-a) c
+      mine-le z c = largest-max z mine (ascending-take kept a (share .front .order)) c
 
       either-le : (m z : ℕ) → largest mine ≤ m → x ≤ m → 0 < copies z ws → z ≤ m
       either-le m z p q c = elim (ℕ-discrete (copies z mine) 0) [
@@ -203,12 +161,13 @@ module _ (a b over : List ℕ) (order-a : T (ascending a)) (order-b : T (ascendi
       ]
 
       -- x leaves
-      pub settling-stop : 28 ≤ kept + taken → ltb x (largest mine) ≡ false → (gone < 72) × Settling a b (set over gone x) kept taken (gone + 1) (i + 1)
+      pub settling-stop : L .frontSlots ≤ kept + taken → ltb x (largest mine) ≡ false
+          → (gone < mostMembers L) × Settling L a b (set over gone x) kept taken (gone + 1) (i + 1)
       unfolding stays goes
       settling-stop r f =
           let g : largest mine ≤ x = ltb-false x (largest mine) f in
-          let l : 28 ≤ length ws = omega (arith, ws-length) in
-          let up : largest (added x ws) ≡ x = largest-last x ws ws-order (λ z c. either-le x z g (omega arith) c) in (
+          let l : L .frontSlots ≤ length ws = omega (arith, ws-length) in
+          let up : largest (added x ws) ≡ x = largest-added-most x ws ws-order (λ z c. either-le x z g (omega arith) c) in (
             gone-in,
             record {
               some-kept = s .some-kept;
@@ -217,8 +176,8 @@ module _ (a b over : List ℕ) (order-a : T (ascending a)) (order-b : T (ascendi
               room = s .room;
               some-gone = omega (arith, s .some-gone);
               long = length-set over gone x ∙ s .long;
-              front = sym (next-stays ∙ stays-full 28 x [] ws l ∙ rw up (removed-added x ws));
-              leaves = left-on x (goes-full 28 x [] ws l ∙ rw up);
+              front = sym (next-stays ∙ stays-full (L .frontSlots) x [] ws l ∙ rw up (removed-added x ws));
+              leaves = left-on x (goes-full (L .frontSlots) x [] ws l ∙ rw up);
               turn = λ k. (
                 omega (arith, s .room),
                 elim (decLe i taken) [
@@ -230,7 +189,7 @@ module _ (a b over : List ℕ) (order-a : T (ascending a)) (order-b : T (ascendi
           )
 
       -- the last that is kept of a leaves
-      module _ (r : 28 ≤ kept + taken) (f : ltb x (largest mine) ≡ true) where
+      module _ (r : L .frontSlots ≤ kept + taken) (f : ltb x (largest mine) ≡ true) where
         less : x < largest mine
         less = ltb-true x (largest mine) f
 
@@ -244,7 +203,7 @@ module _ (a b over : List ℕ) (order-a : T (ascending a)) (order-b : T (ascendi
         way-all : taken ≡ i
         way-all = elim (decLe i taken) [
           | yes l ↦ omega (arith, s .some-taken)
-          | no n ↦ absurd (omega (arith, less, s .turn (omega arith) .1, ascending-at taken i b order-b (s .some-taken) h))
+          | no n ↦ absurd (omega (arith, less, s .turn (omega arith) .1, ascending-at taken i b (share .after .order) (s .some-taken) h))
         ]
 
         abbrev last : ℕ
@@ -270,13 +229,14 @@ module _ (a b over : List ℕ) (order-a : T (ascending a)) (order-b : T (ascendi
 
         most : largest (added x ws) ≡ last
         most =
-            let e : largest ws ≡ last = largest-is last ws ws-order last-in-ws (λ z c. either-le last z (omega (arith, mine-largest)) (omega (arith, mine-largest, less)) c) in
+            let e : largest ws ≡ last =
+            largest-is last ws ws-order last-in-ws (λ z c. either-le last z (omega (arith, mine-largest)) (omega (arith, mine-largest, less)) c) in
             omega (arith, largest-added x ws ws-order, e, mine-largest, less)
 
         without : addedAll (take (kept - 1) a) (take (taken + 1) b) ≡ removed last (added x ws)
         without =
             ascending-unique (addedAll (take (kept - 1) a) (take (taken + 1) b)) (removed last (added x ws))
-            (ascending-addedAll (take (kept - 1) a) (take (taken + 1) b) (ascending-take (taken + 1) b order-b))
+            (ascending-addedAll (take (kept - 1) a) (take (taken + 1) b) (ascending-take (taken + 1) b (share .after .order)))
             (ascending-removed last (added x ws) (ascending-added x ws ws-order))
             (λ z. omega (
               arith,
@@ -290,10 +250,10 @@ module _ (a b over : List ℕ) (order-a : T (ascending a)) (order-b : T (ascendi
               copies-one z last,
             ))
 
-        pub settling-way : (gone < 72) × Settling a b (set over gone last) (kept - 1) (taken + 1) (gone + 1) (i + 1)
+        pub settling-way : (gone < mostMembers L) × Settling L a b (set over gone last) (kept - 1) (taken + 1) (gone + 1) (i + 1)
         unfolding stays goes
         settling-way =
-            let l : 28 ≤ length ws = omega (arith, ws-length) in (
+            let l : L .frontSlots ≤ length ws = omega (arith, ws-length) in (
               gone-in,
               record {
                 some-kept = omega (arith, s .some-kept);
@@ -302,8 +262,31 @@ module _ (a b over : List ℕ) (order-a : T (ascending a)) (order-b : T (ascendi
                 room = omega (arith, s .room, way-kept);
                 some-gone = omega (arith, s .some-gone);
                 long = length-set over gone last ∙ s .long;
-                front = without ∙ sym (next-stays ∙ stays-full 28 x [] ws l ∙ rw most);
-                leaves = left-on last (goes-full 28 x [] ws l ∙ rw most);
+                front = without ∙ sym (next-stays ∙ stays-full (L .frontSlots) x [] ws l ∙ rw most);
+                leaves = left-on last (goes-full (L .frontSlots) x [] ws l ∙ rw most);
                 turn = λ k. absurd (omega (arith, way-all));
               },
             )
+
+-- ---- two lists of keys that share a front bucket
+
+module _ {L : Layout} {a b over : List ℕ} {r : Split} (s : Settled L a b r over) where
+  kept-length : length (take (r .kept) a) ≡ r .kept
+  kept-length = length-take-le (r .kept) a (s .kept)
+
+  taken-length : length (take (r .taken) b) ≡ r .taken
+  taken-length = length-take-le (r .taken) b (s .taken)
+
+  pub settled-mergeable : T (ascending a) → T (ascending b)
+      → T (ascending (take (r .kept) a)) × T (ascending (take (r .taken) b))
+      × (length (take (r .kept) a) + length (take (r .taken) b) ≤ L .frontSlots)
+  settled-mergeable p q =
+      (ascending-take (r .kept) a p, ascending-take (r .taken) b q, omega (arith, kept-length, taken-length, s .room))
+
+  -- merged, they are what stays
+  pub settled-front : (rest keys : List ℕ) → keys ≡ addedAll (take (r .kept) a) (take (r .taken) b) ++ rest
+      → take (r .kept + r .taken) keys ≡ stays (L .frontSlots) b a
+  settled-front rest keys e =
+      let both : List ℕ = addedAll (take (r .kept) a) (take (r .taken) b) in
+      let n : length both ≡ r .kept + r .taken = omega (arith, length-addedAll (take (r .kept) a) (take (r .taken) b), kept-length, taken-length) in
+      rw e (take-at both rest (r .kept + r .taken) n ∙ s .front)

@@ -1,17 +1,20 @@
-// Which keys of two ascending lists share a front bucket's 28 slots, and which leave it, in the order in which one-by-one insertion sends them behind.
+// Which keys of two ascending lists share the slots of a front bucket, and which leave it, in the order in which one-by-one insertion sends
+// them behind.
 
 use crate::Split;
+use crumbmap::layout::FRONT_SLOTS;
 ghost use mathlib.Core.Path.{_≡_};
 ghost use Prim.Native.Nat.{_≤_};
 ghost use lib.ListN.{length, take};
-ghost use lib.Dec.{T, ltb};
-ghost use Rattle.multiset.specs.Multisets.{ascending, largest};
-ghost use Rattle.spill.specs.Spills.{Settled};
+ghost use lib.Dec.{ltb};
+ghost use Rattle.multiset.specs.Multisets.{largest};
+ghost use Rattle.crumbmap.specs.Layouts.{layout1};
+ghost use Rattle.spill.specs.Steps.Settling.{Sharing, Settled};
 
 // The keys of `b` put in after those of `a`: what stays is the start of either, what leaves goes into the start of `over`.
 pub(crate) fn settle(a: &[u32], b: &[u32], over: &mut [u32]) -> Split
-    requires { ⌜ T (ascending (now a)) × T (ascending (now b)) × (length (now a) ≤ 28) × (length (now b) ≤ 72) × (length (now over) ≡ 72) ⌝ }
-    ensures { λ r. ⌜ Settled (now (a .entry)) (now (b .entry)) r (now (over .exit)) ⌝ }
+    requires { ⌜ Sharing layout1 (now a) (now b) (now over) ⌝ }
+    ensures { λ r. ⌜ Settled layout1 (now (a .entry)) (now (b .entry)) r (now (over .exit)) ⌝ }
 {
     let mut kept = a.len();
     let mut taken = 0;
@@ -20,7 +23,7 @@ pub(crate) fn settle(a: &[u32], b: &[u32], over: &mut [u32]) -> Split
     while i < b.len() {
         let key = b[i];
         i += 1;
-        if kept + taken < 28 {
+        if kept + taken < FRONT_SLOTS {
             taken += 1;
         } else if gives_way(a, kept, key) {
             kept -= 1;

@@ -1,107 +1,99 @@
--- Nothing is behind a front bucket with a free slot; behind one that holds 28 are its members from the 28th slot on.
+-- `merging::merge::add_behind` meets its contract. The members past those in front are those behind, where the front bucket is full; else there are
+-- none.
 use mathlib.Core.Path.{_≡_, refl, _∙_, ap}
-use Prim.Native.Nat.{ℕ, _-_, _≤_, _<_}
+use Prim.Native.Nat.{_≤_}
 use mathlib.Core.List.{List}
 use native.Mathlib.Omega.{arith}
-use lib.ListN.{length, take, drop, getD}
+use lib.ListN.{length}
 use borrow.Author.Needs.{needs}
-use Rattle.multiset.proofs.DigitLaws.{below-drop}
-use Rattle.crumbmap.specs.Layouts.{layout1, keys as allKeys}
-use Rattle.image.specs.ImageReads.{inFront}
-use Rattle.listing.specs.Listings.{membersIn, MembersRead}
-use Rattle.validation.specs.Passes.{AllRead}
-use Rattle.spill.specs.Spills.{pushAll}
-use Rattle.machine.proofs.Invariant.{Good}
-use Rattle.listing.proofs.ListingLaws.{behind-few, length-members}
-use Rattle.merging.proofs.MergeSteps.{good-of, read-of, members-read, members-fit, members-split, part-listed}
+use Rattle.crumbmap.specs.Layouts.{layout1, mostMembers}
+use Rattle.buckets.proofs.BucketLaws.{fits1}
+use Rattle.machine.specs.Images.{inFront}
+use Rattle.machine.specs.Steps.Spills.{pushAll}
+use Rattle.merging.proofs.CheckedImages.{Known, known, members-known}
+use Rattle.merging.proofs.JoinLaws.{behind-nothing, listed-many, listed-behind, listed-range}
 use Rattle.merging.proofs.merge.add_behind.Statement.{statement}
 use Rattle.merging.proofs.merge.add_behind.Tie as tie
 
+-- the points of the walk: the start, the front bucket counted, no slot left there, the members listed, those behind pushed
 abbrev start : tie.After-slice-known → tie.Start
 start c = c .before .before .before
 
-abbrev bytes : (c : tie.After-slice-known) → (i : ℕ) → getD (start c .args .source .now) i 0 < 256
-bytes c i = c .before .shared-slice-known2 .given i .fits
+abbrev lent : tie.After-count-front → tie.After-slice-known
+lent c = c .before .before
 
-good : (c : tie.After-slice-known) → Good layout1 (start c .args .size) (start c .args .source .now)
-good c = good-of (start c .args .size) (start c .args .source .now) (bytes c) (start c .pre .1)
+abbrev full : tie.After-list-members → tie.Else1
+full c = c .before .before
 
-all : (c : tie.After-slice-known) → AllRead (start c .args .size) (start c .args .source .now)
-all c = read-of (start c .args .size) (start c .args .source .now) (bytes c) (good c)
+abbrev listed : tie.After-push-all-arg2 → tie.After-list-members
+listed c = c .before .before .before .before
 
-members : (c : tie.After-slice-known) → MembersRead (start c .args .size) (start c .args .front .0) (start c .args .source .now)
-members c = let s = start c in members-read (s .args .size) (s .args .front .0) (s .args .source .now) (good c) (all c) (s .pre .2 .within .front)
-
-bucket-requires : tie.Need-bucket-requires
-bucket-requires c κs = members c .front .inside
-
-count-front-requires : tie.Need-count-front-requires
-count-front-requires c κs = rw (c .bucket .ensures .0) (members (c .before) .front .sound)
+-- the source is known
+source : (c : tie.After-slice-known) → Known layout1 (start c .args .size) (start c .args .source .now)
+source c = known fits1 (λ i. c .before .shared-slice-known2 .given i .fits) (start c .pre .1)
 
 -- how many stand in front
-few : (c : tie.After-count-front) → let s = start (c .before .before) in
-    c .count-front .result ≡ length (inFront (s .args .front .0) (s .args .source .now))
-few c = rw (c .before .bucket .ensures .0) at (c .count-front .ensures)
+many : (c : tie.After-count-front) →
+    let a = start (lent c) .args in
+    c .count-front .result ≡ length (inFront layout1 (a .front .0) (a .source .now))
+many c = rw (c .before .bucket .ensures .0) at (c .count-front .ensures)
+
+-- all slots
+all : (c : tie.Else1) →
+    let a = start (lent (c .before)) .args in
+    layout1 .frontSlots ≤ length (inFront layout1 (a .front .0) (a .source .now))
+all c = omega (arith, many (c .before), c .if1 .left)
+
+-- as many are listed as the slots, or more
+enough : (c : tie.After-list-members) → (layout1 .frontSlots ≤ c .list-members .result) × (c .list-members .result ≤ mostMembers layout1)
+enough c =
+    let k = lent (full c .before) in
+    listed-many (source k) (start k .pre .2 .within .front) (all (full c)) (c .list-members .ensures)
+
+bucket-requires : tie.Need-bucket-requires
+bucket-requires c κs = members-known (source c) (start c .pre .2 .within .front) .front .inside
+
+count-front-requires : tie.Need-count-front-requires
+count-front-requires c κs =
+    let k = c .before in
+    rw (c .bucket .ensures .0) (members-known (source k) (start k .pre .2 .within .front) .front .sound)
 
 returns : tie.Need-returns
-unfolding pushAll
 returns c =
-    let p = c .before .before .before in
-    let s = start p in
-    (rw (behind-few (s .args .size) (s .args .front .0) (s .args .source .now) (members p) (omega (arith, few (c .before), c .if1 .taken))), s .pre .2)
-
-slice-aggregate-list-members : tie.Need-slice-aggregate-list-members
-slice-aggregate-list-members c = search needs
+    let k = lent (c .before) in
+    let s = start k in
+    (behind-nothing (source k) (s .pre .2 .within .front) (s .args .target .now) (omega (arith, many (c .before), c .if1 .taken)), s .pre .2)
 
 list-members-requires : tie.Need-list-members-requires
-list-members-requires c κs = (members (c .before .before .before .before), refl)
-
-abbrev known : tie.After-list-members → tie.After-slice-known
-known c = c .before .before .before .before .before
-
--- at least 28 are listed, and at most 72
-many : (c : tie.After-list-members) → (28 ≤ c .list-members .result) × (c .list-members .result ≤ 72)
-many c =
-    let p = known c in
-    let s = start p in
-    let n = c .list-members .ensures .many in
-    let l = length-members (s .args .size) (s .args .front .0) (s .args .source .now) (members p) in
-    let m = members-fit (s .args .size) (s .args .front .0) (s .args .source .now) (members p) in
-    (omega (arith, n, l, few (c .before .before .before), c .before .before .if1 .left), omega (arith, n, m .2))
-
--- those that are lent on
-part : (c : tie.After-list-members) → let a : _ = start (known c) .args in
-    take (c .list-members .result - 28) (drop 28 (c .list-members .last .1 .1 .1 .0)) ≡ drop 28 (membersIn (a .size) (a .front .0) (a .source .now))
-part c = part-listed _ _ _ _ _ (c .list-members .ensures) (many c .0)
+list-members-requires c κs = let k = lent (c .before .before) in (members-known (source k) (start k .pre .2 .within .front), refl)
 
 sub-push-all : tie.Need-sub-push-all
-sub-push-all c = many (c .before) .0
+sub-push-all c = enough (c .before) .0
 
 part-push-all-start : tie.Need-part-push-all-start
-part-push-all-start c = many (c .before .before) .0
+part-push-all-start c = enough (c .before .before) .0
 
 part-push-all-end : tie.Need-part-push-all-end
-part-push-all-end c = let t = c .before .before in rw (t .list-members .kept .1 .1 .1 .0) (many t .1)
+part-push-all-end c = let m = c .before .before in omega (arith, m .list-members .kept .1 .1 .1 .0, enough m .1)
 
 push-all-requires : tie.Need-push-all-requires
 push-all-requires c κs =
-    let t = c .before .before .before .before in
-    let p = known t in
-    let s = start p in
-    let m = members-fit (s .args .size) (s .args .front .0) (s .args .source .now) (members p) in
-    (s .pre .0, s .pre .2, rw (part t) (below-drop (allKeys layout1) 28 (membersIn (s .args .size) (s .args .front .0) (s .args .source .now)) (m .1)))
-
-same-length : tie.Need-same-length
-same-length c = search needs
+    let m = listed c in
+    let k = lent (full m .before) in
+    let s = start k in
+    (s .pre .0, s .pre .2, listed-range (source k) (s .pre .2 .within .front) (all (full m)) (m .list-members .ensures))
 
 returns-2 : tie.Need-returns-2
 returns-2 c =
-    let t = c .before .before .before .before .before .before .before in
-    let p = known t in
-    let s = start p in
-    let split = members-split (s .args .size) (s .args .front .0) (s .args .source .now) (good p) (all p) (s .pre .2 .within .front) in
-    let e = c .before .before .push-all .ensures in
-    (e .0 ∙ ap (λ (l : List ℕ). pushAll layout1 (s .args .size) (s .args .front .0) l (s .args .target .now)) (part t ∙ split .1), e .1)
+    let p = c .before .before in
+    let m = listed (p .before) in
+    let k = lent (full m .before) in
+    let s = start k in
+    let e = p .push-all .ensures in (
+      e .0 ∙ ap (λ (l : List _). pushAll layout1 (s .args .size) (s .args .front .0) l (s .args .target .now))
+          (listed-behind (source k) (s .pre .2 .within .front) (all (full m)) (m .list-members .ensures)),
+      e .1,
+    )
 
 pub add-behind-spec : {M : Type 1} → statement M
 add-behind-spec =
@@ -110,11 +102,11 @@ add-behind-spec =
     bucket-requires
     count-front-requires
     returns
-    slice-aggregate-list-members
+    (λ c. search needs)
     list-members-requires
     sub-push-all
     part-push-all-start
     part-push-all-end
     push-all-requires
-    same-length
+    (λ c. search needs)
     returns-2)

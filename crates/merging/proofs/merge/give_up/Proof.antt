@@ -1,34 +1,35 @@
--- All buckets cleared are the fresh target (`cleared-all`).
+-- `merging::merge::give_up` meets its contract. All buckets cleared are the fresh target (`cleared-all`).
 use mathlib.Core.Path.{refl, sym, _∙_}
 use native.Mathlib.Omega.{arith}
-use lib.ListN.{length}
 use borrow.Author.Needs.{needs}
+use Rattle.crumbmap.specs.Layouts.{layout1}
 use Rattle.machine.specs.Images.{lengthOf}
-use Rattle.machine.proofs.ImageLaws.{sizeOf-some}
-use Rattle.image.proofs.EmptyLaws.{cleared-all}
-use Rattle.merging.proofs.MergeSteps.{fresh-sized}
+use Rattle.image.proofs.EmptyLaws.{cleared-all, empty-back1}
+use Rattle.merging.proofs.MergeSteps.{fresh-whole}
 use Rattle.merging.proofs.merge.give_up.Statement.{statement}
 use Rattle.merging.proofs.merge.give_up.Tie as tie
 
+-- the points of the walk: the start, and all buckets cleared
+abbrev start : tie.After-clear-all-arg → tie.Start
+start c = c .before .before
+
+abbrev cleared : tie.After-slice-known2 → tie.After-clear-all
+cleared c = c .before .before
+
 mul-clear-all : tie.Need-mul-clear-all
-mul-clear-all c = let s = c .before .before in omega (arith, sizeOf-some (length (s .args .target .now)) (s .args .size) (s .pre) .2)
+mul-clear-all c = omega (arith, start c .pre .small)
 
 add-clear-all : tie.Need-add-clear-all
-add-clear-all c = let s = c .before .before in omega (arith, sizeOf-some (length (s .args .target .now)) (s .args .size) (s .pre) .2)
+add-clear-all c = omega (arith, start c .pre .small)
 
 clear-all-requires : tie.Need-clear-all-requires
-clear-all-requires c κs = let s = c .before .before in sizeOf-some (length (s .args .target .now)) (s .args .size) (s .pre) .0 ∙ unfold lengthOf in omega arith
-
-same-length : tie.Need-same-length
-same-length c = search needs
+clear-all-requires c κs = start c .pre .long ∙ unfold lengthOf in omega arith
 
 returns : tie.Need-returns
 returns c =
-    let s = c .before .before .before .before .before in
-    record {
-      answer = refl;
-      bytes = c .before .before .clear-all .ensures ∙ cleared-all (s .args .size) ∙ sym (fresh-sized (s .args .size) (s .args .target .now) (s .pre));
-    }
+    let d = cleared c in
+    let s = start (d .before) in
+    record { answer = refl; bytes = d .clear-all .ensures ∙ cleared-all layout1 empty-back1 (s .args .size) ∙ sym (fresh-whole layout1 (s .pre)) }
 
 pub give-up-spec : {M : Type 1} → statement M
-give-up-spec = tie.close (tie.spec mul-clear-all add-clear-all clear-all-requires same-length returns)
+give-up-spec = tie.close (tie.spec mul-clear-all add-clear-all clear-all-requires (λ c. search needs) returns)

@@ -1,146 +1,135 @@
--- Merge is the machine's at the size that the three images share, or the refusal of their lengths.
-use mathlib.Core.Path.{_≡_, refl, sym}
+-- `merging::merge::merge` meets its contract. Merge is the machine's at the size that the three images share, or the refusal of their lengths.
+use mathlib.Core.Path.{_≡_, refl, sym, _∙_, ap}
 use mathlib.Core.Option.{some}
 use lib.ListN.{length}
+use borrow.Author.Needs.{needs}
 use borrow.Author.Tests.{eq-eqb, ne-eqb}
 use Rattle.machine.specs.Images.{sizeOf}
 use Rattle.machine.specs.Calls.{mergeOf}
-use Rattle.image.proofs.ImageReadLaws.{size-some, size-none}
-use borrow.Author.Needs.{needs}
+use Rattle.image.proofs.ImageReadLaws.{size-some, size-none, whole-of}
 use Rattle.merging.proofs.merge.merge.Statement.{statement}
 use Rattle.merging.proofs.merge.merge.Tie as tie
 
+-- the points of the walk: the start, the first's size, the second's size, the target's size, the sizes compared
 abbrev start : tie.After-size → tie.Start
 start c = c .before .before .before .before .before .before
 
-first-size : (c : tie.After-size) → sizeOf (length (start c .args .first .now)) ≡ some (c .size .given .0 .0)
-first-size c = size-some (sizeOf (length (start c .args .first .now))) (c .before .before .size-of .ensures) (c .size .given .1)
+abbrev sized : tie.After-size-of2 → tie.After-size
+sized c = c .before .before
 
-second-size : (c : tie.After-other) → sizeOf (length (start (c .before .before .before .before) .args .second .now)) ≡ some (c .other .given .0 .0)
-second-size c = size-some (sizeOf (length (start (c .before .before .before .before) .args .second .now))) (c .before .before .size-of2 .ensures) (c .other .given .1)
+abbrev sized2 : tie.After-other → tie.After-size
+sized2 c = sized (c .before .before)
 
-target-size : (c : tie.After-into) → let a : _ = start (c .before .before .before .before .before .before .before .before) .args in
-    sizeOf (length (a .target .now)) ≡ some (c .into .given .0 .0)
-target-size c =
-    let a = start (c .before .before .before .before .before .before .before .before) .args in
-    size-some (sizeOf (length (a .target .now))) (c .before .before .size-of3 .ensures) (c .into .given .1)
+abbrev others : tie.After-size-of3 → tie.After-other
+others c = c .before .before
 
-size-of-requires : tie.Need-size-of-requires
-size-of-requires c κs = search needs
+abbrev sized3 : tie.After-into → tie.After-other
+sized3 c = others (c .before .before)
 
-enum-known-size : tie.Need-enum-known-size
-enum-known-size c = search needs
+abbrev compared : tie.Else2 → tie.After-into
+compared c = c .before .before .before
 
-enum-told : tie.Need-enum-told
-enum-told c = search needs
+-- the sizes of the three
+first : (c : tie.After-size) → sizeOf (length (start c .args .first .now)) ≡ some (c .size .given .0 .0)
+first c = size-some (sizeOf (length (start c .args .first .now))) (c .before .before .size-of .ensures) (c .size .given .1)
+
+second : (c : tie.After-other) → sizeOf (length (start (sized2 c) .args .second .now)) ≡ some (c .other .given .0 .0)
+second c = size-some (sizeOf (length (start (sized2 c) .args .second .now))) (c .before .before .size-of2 .ensures) (c .other .given .1)
+
+target : (c : tie.After-into) → sizeOf (length (start (sized2 (sized3 c)) .args .target .now)) ≡ some (c .into .given .0 .0)
+target c = size-some (sizeOf (length (start (sized2 (sized3 c)) .args .target .now))) (c .before .before .size-of3 .ensures) (c .into .given .1)
 
 returns : tie.Need-returns
 unfolding mergeOf
 returns c =
-    let a = c .before .before .before .before .before .before .args in
-    rw (size-none (sizeOf (length (a .first .now))) (c .before .before .size-of .ensures) (c .enum-told .given .1)) record { answer = refl; bytes = refl }
-
-size-of-requires-2 : tie.Need-size-of-requires-2
-size-of-requires-2 c κs = search needs
-
-enum-known-other : tie.Need-enum-known-other
-enum-known-other c = search needs
-
-enum-told-2 : tie.Need-enum-told-2
-enum-told-2 c = search needs
+    let k = c .before .before in
+    let a = k .before .before .before .before .args in
+    rw (size-none (sizeOf (length (a .first .now))) (k .size-of .ensures) (c .enum-told .given .1)) record { answer = refl; bytes = refl }
 
 returns-2 : tie.Need-returns-2
 unfolding mergeOf
 returns-2 c =
-    let a = start (c .before .before .before .before) .args in
-    rw (
-      first-size (c .before .before .before .before),
-      size-none (sizeOf (length (a .second .now))) (c .before .before .size-of2 .ensures) (c .enum-told2 .given .1),
-    ) record { answer = refl; bytes = refl }
-
-size-of-requires-3 : tie.Need-size-of-requires-3
-size-of-requires-3 c κs = search needs
-
-enum-known-into : tie.Need-enum-known-into
-enum-known-into c = search needs
-
-enum-told-3 : tie.Need-enum-told-3
-enum-told-3 c = search needs
+    let k = c .before .before in
+    let a = start (sized k) .args in
+    rw (first (sized k), size-none (sizeOf (length (a .second .now))) (k .size-of2 .ensures) (c .enum-told2 .given .1))
+    record { answer = refl; bytes = refl }
 
 returns-3 : tie.Need-returns-3
 unfolding mergeOf
 returns-3 c =
-    let o = c .before .before .before .before in
-    let a = start (o .before .before .before .before) .args in
-    rw (
-      first-size (o .before .before .before .before),
-      second-size o,
-      size-none (sizeOf (length (a .target .now))) (c .before .before .size-of3 .ensures) (c .enum-told3 .given .1),
-    ) record { answer = refl; bytes = refl }
+    let k = c .before .before in
+    let o = others k in
+    let a = start (sized2 o) .args in
+    rw (first (sized2 o), second o, size-none (sizeOf (length (a .target .now))) (k .size-of3 .ensures) (c .enum-told3 .given .1))
+    record { answer = refl; bytes = refl }
 
 returns-4 : tie.Need-returns-4
 unfolding mergeOf
 returns-4 c =
     let i = c .before .before in
-    let o = i .before .before .before .before in
-    let f = o .before .before .before .before in
-    rw (first-size f, second-size o, target-size i, ne-eqb (f .size .given .0 .0) (o .other .given .0 .0) (c .if1 .taken)) record { answer = refl; bytes = refl }
+    let o = sized3 i in
+    let f = sized2 o in
+    rw (first f, second o, target i, ne-eqb (f .size .given .0 .0) (o .other .given .0 .0) (c .if1 .taken)) record { answer = refl; bytes = refl }
 
 returns-5 : tie.Need-returns-5
 unfolding mergeOf
 returns-5 c =
     let i = c .before .before .before in
-    let o = i .before .before .before .before in
-    let f = o .before .before .before .before in
+    let o = sized3 i in
+    let f = sized2 o in
     rw (
-      first-size f,
-      second-size o,
-      target-size i,
+      first f,
+      second o,
+      target i,
       eq-eqb (f .size .given .0 .0) (o .other .given .0 .0) (c .before .if1 .left),
       ne-eqb (f .size .given .0 .0) (i .into .given .0 .0) (c .if2 .taken),
     ) record { answer = refl; bytes = refl }
 
 merge-sized-requires : tie.Need-merge-sized-requires
 merge-sized-requires c κs =
-    let i = c .before .before .before .before in
-    let o = i .before .before .before .before in
-    (first-size (o .before .before .before .before), rw (sym (c .before .before .if1 .left)) at (second-size o), rw (sym (c .before .if2 .left)) at (target-size i))
-
-same-length : tie.Need-same-length
-same-length c = search needs
+    let e = c .before in
+    let i = compared e in
+    let o = sized3 i in
+    let a = start (sized2 o) .args in (
+      whole-of (a .first .now) (first (sized2 o)),
+      whole-of (a .second .now) (second o ∙ ap some (sym (e .before .if1 .left))),
+      whole-of (a .target .now) (target i ∙ ap some (sym (e .if2 .left))),
+    )
 
 returns-6 : tie.Need-returns-6
 unfolding mergeOf
 returns-6 c =
-    let i = c .before .before .before .before .before .before .before in
-    let o = i .before .before .before .before in
-    let f = o .before .before .before .before in
+    let m = c .before .before in
+    let e = m .before .before in
+    let i = compared e in
+    let o = sized3 i in
+    let f = sized2 o in
     rw (
-      first-size f,
-      second-size o,
-      target-size i,
-      eq-eqb (f .size .given .0 .0) (o .other .given .0 .0) (c .before .before .before .before .before .if1 .left),
-      eq-eqb (f .size .given .0 .0) (i .into .given .0 .0) (c .before .before .before .before .if2 .left),
-    ) (c .before .before .merge-sized .ensures)
+      first f,
+      second o,
+      target i,
+      eq-eqb (f .size .given .0 .0) (o .other .given .0 .0) (e .before .if1 .left),
+      eq-eqb (f .size .given .0 .0) (i .into .given .0 .0) (e .if2 .left),
+    ) (m .merge-sized .ensures)
 
 pub merge-spec : {M : Type 1} → statement M
 merge-spec =
     tie.close
     (tie.spec
-    size-of-requires
-    enum-known-size
-    enum-told
+    (λ c κs. search needs)
+    (λ c. search needs)
+    (λ c. search needs)
     returns
-    size-of-requires-2
-    enum-known-other
-    enum-told-2
+    (λ c κs. search needs)
+    (λ c. search needs)
+    (λ c. search needs)
     returns-2
-    size-of-requires-3
-    enum-known-into
-    enum-told-3
+    (λ c κs. search needs)
+    (λ c. search needs)
+    (λ c. search needs)
     returns-3
     returns-4
     returns-5
     merge-sized-requires
-    same-length
+    (λ c. search needs)
     returns-6)

@@ -1,51 +1,49 @@
--- Both front buckets' members are listed, and both lists are put in.
+-- `merging::merge::merge_both` meets its contract. Both front buckets' members are listed, and both lists are put in.
 use mathlib.Core.Path.{refl}
 use borrow.Author.Needs.{needs}
 use Rattle.crumbmap.specs.Layouts.{layout1}
-use Rattle.listing.specs.Listings.{MembersRead}
-use Rattle.merging.specs.Merging.{bothInserted}
-use Rattle.machine.proofs.Invariant.{Good}
+use Rattle.buckets.proofs.BucketLaws.{fits1}
 use Rattle.image.proofs.ListedLaws.{listed-take, listed-fits, listed-length}
-use Rattle.merging.proofs.MergeSteps.{good-of, read-of, members-read, members-fit}
+use Rattle.listing.specs.Steps.Listings.{MembersRead}
+use Rattle.merging.proofs.CheckedImages.{known, members-known, members-keys}
 use Rattle.merging.proofs.merge.merge_both.Statement.{statement}
 use Rattle.merging.proofs.merge.merge_both.Tie as tie
 
+-- the points of the walk: the start, the first's members listed, the second's members listed, both lists put in
 abbrev start : tie.After-slice-known → tie.Start
 start c = c .before .before .before .before
 
-first-good : (c : tie.After-slice-known) → Good layout1 (start c .args .size) (start c .args .first .now)
-first-good c = good-of (start c .args .size) (start c .args .first .now) (λ i. c .before .before .shared-slice-known2 .given i .fits) (start c .pre .1)
+abbrev lent : tie.After-list-members → tie.After-slice-known
+lent c = c .before .before
 
-first-members : (c : tie.After-slice-known) → MembersRead (start c .args .size) (start c .args .front .0) (start c .args .first .now)
-first-members c =
-    let s = start c in
-    members-read (s .args .size) (s .args .front .0) (s .args .first .now) (first-good c) (read-of (s .args .size) (s .args .first .now) (λ i. c .before .before .shared-slice-known2 .given i .fits) (first-good c)) (s .pre .4)
+abbrev listed : tie.After-list-members2 → tie.After-list-members
+listed c = c .before .before .before
 
-second-good : (c : tie.After-slice-known) → Good layout1 (start c .args .size) (start c .args .second .now)
-second-good c = good-of (start c .args .size) (start c .args .second .now) (λ i. c .before .shared-slice-known3 .given i .fits) (start c .pre .2)
+abbrev listed2 : tie.After-join-arg → tie.After-list-members2
+listed2 c = c .before .before .before .before
 
-second-members : (c : tie.After-slice-known) → MembersRead (start c .args .size) (start c .args .front .0) (start c .args .second .now)
-second-members c =
-    let s = start c in
-    members-read (s .args .size) (s .args .front .0) (s .args .second .now) (second-good c) (read-of (s .args .size) (s .args .second .now) (λ i. c .before .shared-slice-known3 .given i .fits) (second-good c)) (s .pre .4)
+-- the members of either can be read
+first : (c : tie.After-slice-known) → MembersRead layout1 (start c .args .size) (start c .args .front .0) (start c .args .first .now)
+first c =
+    let p = start c .pre .1 in
+    members-known (known fits1 (λ i. c .before .before .shared-slice-known2 .given i .fits) (p .from .first)) (p .into .front)
 
-slice-aggregate-list-members : tie.Need-slice-aggregate-list-members
-slice-aggregate-list-members c = search needs
+second : (c : tie.After-slice-known) → MembersRead layout1 (start c .args .size) (start c .args .front .0) (start c .args .second .now)
+second c =
+    let p = start c .pre .1 in
+    members-known (known fits1 (λ i. c .before .shared-slice-known3 .given i .fits) (p .from .second)) (p .into .front)
 
 list-members-requires : tie.Need-list-members-requires
-list-members-requires c κs = (first-members (c .before), refl)
-
-slice-aggregate-list-members-2 : tie.Need-slice-aggregate-list-members-2
-slice-aggregate-list-members-2 c = search needs
+list-members-requires c κs = (first (c .before), refl)
 
 list-members-requires-2 : tie.Need-list-members-requires-2
-list-members-requires-2 c κs = (second-members (c .before .before .before .before), refl)
+list-members-requires-2 c κs = (second (lent (c .before .before)), refl)
 
 array-share-prefix-a : tie.Need-array-share-prefix-a
-array-share-prefix-a c = listed-fits (c .before .before .before .before .list-members .ensures)
+array-share-prefix-a c = listed-fits (listed (c .before) .list-members .ensures)
 
 slice-aggregate-join : tie.Need-slice-aggregate-join
-slice-aggregate-join c = listed-length (c .before .before .before .before .before .list-members .ensures)
+slice-aggregate-join c = listed-length (listed (c .before .before) .list-members .ensures)
 
 array-share-prefix-b : tie.Need-array-share-prefix-b
 array-share-prefix-b c = listed-fits (c .before .before .list-members2 .ensures)
@@ -55,33 +53,30 @@ slice-aggregate-join-2 c = listed-length (c .before .before .before .list-member
 
 join-requires : tie.Need-join-requires
 join-requires c κs =
-    let l = c .before .before .before .before .before .before .before in
-    let p = l .before .before in
-    let s = start p in
-    let x = members-fit (s .args .size) (s .args .front .0) (s .args .first .now) (first-members p) in
-    let y = members-fit (s .args .size) (s .args .front .0) (s .args .second .now) (second-members p) in
-    rw (listed-take (l .list-members .ensures), listed-take (c .before .before .before .before .list-members2 .ensures)) (s .pre .0, s .pre .3, s .pre .4, s .pre .5, x .0, y .0, x .1, y .1, y .2)
-
-same-length : tie.Need-same-length
-same-length c = search needs
+    let m = listed2 c in
+    let l = listed m in
+    let k = lent l in
+    rw (listed-take (l .list-members .ensures), listed-take (m .list-members2 .ensures))
+    (start k .pre .0, record { first = members-keys (first k); second = members-keys (second k); into = start k .pre .1 .into })
 
 returns : tie.Need-returns
-unfolding bothInserted
 returns c =
-    rw (listed-take (c .before .before .before .before .before .before .before .before .before .before .list-members .ensures), listed-take (c .before .before .before .before .before .before .before .list-members2 .ensures)) at (c .before .before .join .ensures)
+    let j = c .before .before in
+    let m = listed2 (j .before) in
+    rw (listed-take (listed m .list-members .ensures), listed-take (m .list-members2 .ensures)) at (j .join .ensures)
 
 pub merge-both-spec : {M : Type 1} → statement M
 merge-both-spec =
     tie.close
     (tie.spec
-    slice-aggregate-list-members
+    (λ c. search needs)
     list-members-requires
-    slice-aggregate-list-members-2
+    (λ c. search needs)
     list-members-requires-2
     array-share-prefix-a
     slice-aggregate-join
     array-share-prefix-b
     slice-aggregate-join-2
     join-requires
-    same-length
+    (λ c. search needs)
     returns)

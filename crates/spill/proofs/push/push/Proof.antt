@@ -1,149 +1,125 @@
--- The backyard bucket that n0 and n1 choose takes the key, or both are full.
-use mathlib.Core.Path.{_≡_, sym, ap, _∙_}
-use Prim.Native.Nat.{ℕ, _<_}
+-- `spill::push::push` meets its contract. Both backyard buckets are counted where the choices lead to (`hold`), and the taker of their counts
+-- takes the key, or both are full.
 use mathlib.Core.Bool.{true, false}
-use native.Mathlib.Omega.{arith}
-use lib.ListN.{length}
 use borrow.Author.Needs.{needs}
-use borrow.Author.Tests.{lt-ltb, le-ltb}
-use Rattle.crumbmap.specs.CrumbMap.{firstBucket, secondBucket}
-use Rattle.crumbmap.specs.declared.Overflow.{Overflow}
-use Rattle.image.specs.ImageReads.{inBack, BothHold}
-use Rattle.image.proofs.ImageReadLaws.{chosen-way, room-first, room-second, room-left}
-use Rattle.spill.proofs.PushLaws.{push-stuck, push-to, push-keeps}
+use Rattle.crumbmap.specs.Layouts.{layout1}
+use Rattle.buckets.proofs.BucketLaws.{fits1}
+use Rattle.image.proofs.ImageReadLaws.{chosen-way}
+use Rattle.insertion.proofs.TakerLaws.{taking-full, taking-first, taking-second}
+use Rattle.spill.proofs.PushLaws.{Holding, holding, holding-few, push-stuck, push-joinable, push-to, push-keeps}
 use Rattle.spill.proofs.push.push.Statement.{statement}
 use Rattle.spill.proofs.push.push.Tie as tie
 
-first-of-requires : tie.Need-first-of-requires
-first-of-requires c κs = search needs
+-- the points of the walk: the start, both ways known, b0 counted, b1 counted, the taker known, the key behind
+abbrev start : tie.After-second-of → tie.Start
+start c = c .before .before .before .before
 
-second-of-requires : tie.Need-second-of-requires
-second-of-requires c κs = search needs
+abbrev ways : tie.After-count-back → tie.After-second-of
+ways c = c .before .before .before
+
+abbrev first : tie.After-count-back2 → tie.After-count-back
+first c = c .before .before .before
+
+abbrev counted : tie.After-taker → tie.After-count-back2
+counted c = c .before
+
+abbrev taken1 : tie.After-put-behind → tie.After-taker
+taken1 c = c .before .before .before .before
+
+abbrev taken2 : tie.After-put-behind2 → tie.After-taker
+taken2 c = c .before .before .before .before
+
+-- how many b0 and b1 hold
+hold : (c : tie.After-count-back2) →
+    let a = start (ways (first c)) .args in
+    Holding layout1 (a .size) (a .front .0) (a .image .now) (first c .count-back .result) (c .count-back2 .result)
+hold c =
+    let w = ways (first c) in
+    holding (start w .pre .1) (w .before .first-of .ensures) (w .second-of .ensures)
+    (first c .before .back-bucket .ensures .0) (first c .count-back .ensures) (c .before .back-bucket2 .ensures .0) (c .count-back2 .ensures)
 
 back-bucket-requires : tie.Need-back-bucket-requires
-back-bucket-requires c κs = chosen-way (c .before .before .before .before .before .pre .1 .both) true (c .before .before .first-of .ensures) .within
+back-bucket-requires c κs = let w = c .before in chosen-way (start w .pre .1 .both) true (w .before .first-of .ensures) .within
 
 count-back-requires : tie.Need-count-back-requires
 count-back-requires c κs =
-    rw (c .back-bucket .ensures .0) (chosen-way (c .before .before .before .before .before .before .pre .1 .both) true (c .before .before .before .first-of .ensures) .sound)
+    let w = c .before .before in
+    rw (c .back-bucket .ensures .0) (chosen-way (start w .pre .1 .both) true (w .before .first-of .ensures) .sound)
 
 back-bucket-requires-2 : tie.Need-back-bucket-requires-2
-back-bucket-requires-2 c κs = chosen-way (c .before .before .before .before .before .before .before .before .pre .1 .both) false (c .before .before .before .before .second-of .ensures) .within
+back-bucket-requires-2 c κs = let w = ways (c .before) in chosen-way (start w .pre .1 .both) false (w .second-of .ensures) .within
 
 count-back-requires-2 : tie.Need-count-back-requires-2
 count-back-requires-2 c κs =
-    rw (c .back-bucket2 .ensures .0) (chosen-way (c .before .before .before .before .before .before .before .before .before .pre .1 .both) false (c .before .before .before .before .before .second-of .ensures) .sound)
+    let w = ways (c .before .before) in
+    rw (c .back-bucket2 .ensures .0) (chosen-way (start w .pre .1 .both) false (w .second-of .ensures) .sound)
 
--- the start, where both ways were found, and how many either bucket holds
-abbrev start : tie.After-count-back2 → tie.Start
-start c = c .before .before .before .before .before .before .before .before .before .before
-
-abbrev to-first : (c : tie.After-count-back2) → Overflow
-to-first c = c .before .before .before .before .before .before .before .first-of .result
-
-abbrev to-second : (c : tie.After-count-back2) → Overflow
-to-second c = c .before .before .before .before .before .before .second-of .result
-
-in-first : (c : tie.After-count-back2) → let a : _ = start c .args in
-    c .before .before .before .count-back .result ≡ length (inBack (a .size) (to-first c .bucket .0) (a .image .now))
-in-first c = let p = c .before .before .before in rw (p .before .back-bucket .ensures .0) at (p .count-back .ensures)
-
-in-second : (c : tie.After-count-back2) → let a : _ = start c .args in
-    c .count-back2 .result ≡ length (inBack (a .size) (to-second c .bucket .0) (a .image .now))
-in-second c = rw (c .before .back-bucket2 .ensures .0) at (c .count-back2 .ensures)
-
--- how many b0 and b1 hold
-hold : (c : tie.After-count-back2) → let a : _ = start c .args in
-    BothHold (a .size) (a .front .0) (a .image .now) (c .before .before .before .count-back .result) (c .count-back2 .result)
-hold c =
-    let a = start c .args in
-    let many : ℕ → ℕ = λ j. length (inBack (a .size) j (a .image .now)) in
-    record {
-      read = start c .pre .1 .both;
-      first = sym (in-first c ∙ ap many (c .before .before .before .before .before .before .before .first-of .ensures .bucket));
-      second = sym (in-second c ∙ ap many (c .before .before .before .before .before .before .second-of .ensures .bucket));
-    }
-
--- the one that takes the key has a free slot
-first-room : (c : tie.After-count-back2) → c .before .before .before .count-back .result < c .count-back2 .result
-    → length (inBack (start c .args .size) (to-first c .bucket .0) (start c .args .image .now)) < 22
-first-room c h = let b = hold c in omega (arith, in-first c, b .second, b .read .second .list .room)
-
-second-room : (c : tie.After-count-back2) → (c .count-back2 .result ≡ 22 → ⊥)
-    → length (inBack (start c .args .size) (to-second c .bucket .0) (start c .args .image .now)) < 22
-second-room c h = room-left (chosen-way (start c .pre .1 .both) false (c .before .before .before .before .before .before .second-of .ensures) .list .room) (λ q. h (in-second c ∙ q))
+taker-requires : tie.Need-taker-requires
+taker-requires c κs = holding-few (hold c)
 
 put-behind-requires : tie.Need-put-behind-requires
 put-behind-requires c κs =
-    let p = c .before .before in
-    let l = p .before .before .before .before .before .before .before .first-of .ensures in
-    (start p .pre .0, chosen-way (start p .pre .1 .both) true l, first-room p (c .before .if1 .taken), l .small, start p .pre .2)
+    let k = c .before .before .before in
+    let w = ways (first (counted k)) in
+    let s = start w in
+    let t = taking-first (k .taker .ensures) (c .before .enum-told2 .given .1) in
+    (s .pre .0, push-joinable (hold (counted k)) (s .args .key) true (w .before .first-of .ensures) t (s .pre .2))
 
-same-length : tie.Need-same-length
-same-length c = search needs
+put-behind-requires-2 : tie.Need-put-behind-requires-2
+put-behind-requires-2 c κs =
+    let k = c .before .before .before in
+    let w = ways (first (counted k)) in
+    let s = start w in
+    let t = taking-second (k .taker .ensures) (c .before .enum-told3 .given .1) in
+    (s .pre .0, push-joinable (hold (counted k)) (s .args .key) false (w .second-of .ensures) t (s .pre .2))
 
 returns : tie.Need-returns
 returns c =
-    let p = c .before .before .before .before .before in
-    let l = p .before .before .before .before .before .before .before .first-of .ensures in
-    let s = start p in
-    let b = hold p in
-    let h = c .before .before .before .before .if1 .taken in
-    let n = length (inBack (s .args .size) (firstBucket (s .args .front .0)) (s .args .image .now)) in
-    let m = length (inBack (s .args .size) (secondBucket (s .args .size) (s .args .front .0)) (s .args .image .now)) in
-    rw (c .before .before .put-behind .ensures) (
-      push-to (s .pre .1) (s .args .key) true l (room-first n m (λ q. omega (arith, b .first, b .second, b .read .second .list .room))) (lt-ltb n m (omega (arith, b .first, b .second))),
-      push-keeps (s .pre .1) (s .args .key) true l (s .pre .2) (first-room p h),
-    )
-
-same-length-2 : tie.Need-same-length-2
-same-length-2 c = search needs
+    let k = c .before .before in
+    let h = hold (counted k) in
+    (push-stuck h (start (ways (first (counted k))) .args .key) (taking-full (k .taker .ensures) (c .enum-told .given .1)), h .read)
 
 returns-2 : tie.Need-returns-2
 returns-2 c =
     let p = c .before .before in
-    let s = start p in
-    let b = hold p in
-    (push-stuck (s .pre .1) (s .args .key) (omega (arith, b .first, b .second, b .read .first .list .room)) (omega (arith, b .second)), s .pre .1)
-
-put-behind-requires-2 : tie.Need-put-behind-requires-2
-put-behind-requires-2 c κs =
-    let p = c .before .before .before in
-    let l = p .before .before .before .before .before .before .second-of .ensures in
-    (start p .pre .0, chosen-way (start p .pre .1 .both) false l, second-room p (c .before .if2 .left), l .small, start p .pre .2)
-
-same-length-3 : tie.Need-same-length-3
-same-length-3 c = search needs
+    let k = taken1 p in
+    let h = hold (counted k) in
+    let w = ways (first (counted k)) in
+    let l = w .before .first-of .ensures in
+    let x = start w .args .key in
+    let t = taking-first (k .taker .ensures) (p .before .before .enum-told2 .given .1) in
+    rw (p .put-behind .ensures) (push-to h x true l t, push-keeps h x true l t fits1 (start w .pre .2))
 
 returns-3 : tie.Need-returns-3
 returns-3 c =
-    let p = c .before .before .before .before .before .before in
-    let l = p .before .before .before .before .before .before .second-of .ensures in
-    let s = start p in
-    let b = hold p in
-    let h = c .before .before .before .before .if2 .left in
-    let n = length (inBack (s .args .size) (firstBucket (s .args .front .0)) (s .args .image .now)) in
-    let m = length (inBack (s .args .size) (secondBucket (s .args .size) (s .args .front .0)) (s .args .image .now)) in
-    rw (c .before .before .put-behind2 .ensures) (
-      push-to (s .pre .1) (s .args .key) false l (room-second n m (λ q. h (omega (arith, q, b .second)))) (le-ltb n m (omega (arith, b .first, b .second))),
-      push-keeps (s .pre .1) (s .args .key) false l (s .pre .2) (second-room p h),
-    )
+    let p = c .before .before in
+    let k = taken2 p in
+    let h = hold (counted k) in
+    let w = ways (first (counted k)) in
+    let l = w .second-of .ensures in
+    let x = start w .args .key in
+    let t = taking-second (k .taker .ensures) (p .before .before .enum-told3 .given .1) in
+    rw (p .put-behind2 .ensures) (push-to h x false l t, push-keeps h x false l t fits1 (start w .pre .2))
 
 pub push-spec : {M : Type 1} → statement M
 push-spec =
     tie.close
     (tie.spec
-    first-of-requires
-    second-of-requires
+    (λ c κs. search needs)
+    (λ c κs. search needs)
     back-bucket-requires
     count-back-requires
     back-bucket-requires-2
     count-back-requires-2
+    taker-requires
+    (λ c. search needs)
+    (λ c. search needs)
     put-behind-requires
-    same-length
-    returns
-    same-length-2
-    returns-2
+    (λ c. search needs)
     put-behind-requires-2
-    same-length-3
+    (λ c. search needs)
+    returns
+    (λ c. search needs)
+    returns-2
+    (λ c. search needs)
     returns-3)
