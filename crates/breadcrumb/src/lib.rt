@@ -1,68 +1,68 @@
 // The catalogue: one lent image, and the eight calls on it. Each gives document 01's answer, or why it is refused, and every byte that it was
 // lent is the plain machine's after it.
 
-use answers::Answer;
-use answers::Changed;
-use answers::Done;
-use answers::Paged;
-use answers::Tally;
+use answers::AskResult;
+use answers::ChangeResult;
+use answers::CountResult;
+use answers::Outcome;
+use answers::PageResult;
 ghost use mathlib.Core.Path.{_≡_};
 ghost use Rattle.crumbmap.specs.Layouts.{layout1};
 ghost use Rattle.machine.specs.Calls.{askOf, countOf, checkOf};
-ghost use Rattle.answers.specs.Answers.{doneOf, askedOf, countedOf, Freshens, Inserts, Deletes, Pages, Merges};
+ghost use Rattle.answers.specs.Answers.{outcomeOf, askedOf, countedOf, Freshens, Inserts, Deletes, Pages, Merges};
 
 // The image becomes an empty catalogue, whatever its bytes were.
-pub fn fresh(image: &mut [u8]) -> Done
-    ensures { λ r. ⌜ Freshens (now (image .entry)) r (now (image .exit)) ⌝ }
+pub fn fresh(image: &mut [u8]) -> Outcome
+    ensures { λ r. ⌜ Freshens layout1 (now (image .entry)) r (now (image .exit)) ⌝ }
 {
     image::fresh::fresh(image)
 }
 
 // One more copy of a hash's fingerprint.
-pub fn insert(image: &mut [u8], hash: u64) -> Changed
-    ensures { λ r. ⌜ Inserts (now (image .entry)) hash r (now (image .exit)) ⌝ }
+pub fn insert(image: &mut [u8], hash: u64) -> ChangeResult
+    ensures { λ r. ⌜ Inserts layout1 (now (image .entry)) hash r (now (image .exit)) ⌝ }
 {
     insertion::insert::insert(image, hash)
 }
 
 // One copy less of a hash's fingerprint.
-pub fn delete(image: &mut [u8], hash: u64) -> Changed
-    ensures { λ r. ⌜ Deletes (now (image .entry)) hash r (now (image .exit)) ⌝ }
+pub fn delete(image: &mut [u8], hash: u64) -> ChangeResult
+    ensures { λ r. ⌜ Deletes layout1 (now (image .entry)) hash r (now (image .exit)) ⌝ }
 {
     deletion::delete::delete(image, hash)
 }
 
 // Where the fingerprint of a hash stands, and how many buckets were read to tell.
-pub fn ask(image: &[u8], hash: u64) -> Answer
+pub fn ask(image: &[u8], hash: u64) -> AskResult
     ensures { λ r. ⌜ askedOf r ≡ askOf layout1 (now (image .entry)) hash ⌝ }
 {
     lookup::ask::ask(image, hash)
 }
 
 // How many copies of a hash's fingerprint there are, and how many buckets were read to tell.
-pub fn count(image: &[u8], hash: u64) -> Tally
+pub fn count(image: &[u8], hash: u64) -> CountResult
     ensures { λ r. ⌜ countedOf r ≡ countOf layout1 (now (image .entry)) hash ⌝ }
 {
     lookup::count::count(image, hash)
 }
 
 // The members from front bucket `start` on into `out`: how many, and the next bucket.
-pub fn page(image: &[u8], start: usize, out: &mut [u64]) -> Paged
-    ensures { λ r. ⌜ Pages (now (image .entry)) start (now (out .entry)) r (now (out .exit)) ⌝ }
+pub fn page(image: &[u8], start: usize, out: &mut [u64]) -> PageResult
+    ensures { λ r. ⌜ Pages layout1 (now (image .entry)) start (now (out .entry)) r (now (out .exit)) ⌝ }
 {
     listing::page::page(image, start, out)
 }
 
 // Whether the bytes are a catalogue.
-pub fn check(image: &[u8]) -> Done
-    ensures { λ r. ⌜ doneOf r ≡ checkOf layout1 (now (image .entry)) ⌝ }
+pub fn check(image: &[u8]) -> Outcome
+    ensures { λ r. ⌜ outcomeOf r ≡ checkOf layout1 (now (image .entry)) ⌝ }
 {
     validation::check::check(image)
 }
 
 // The members of two images into a third.
-pub fn merge<'a>(first: &'a [u8], second: &'a [u8], target: &mut [u8]) -> Done
-    ensures { λ r. ⌜ Merges (now (first .entry)) (now (second .entry)) (now (target .entry)) r (now (target .exit)) ⌝ }
+pub fn merge<'a>(first: &'a [u8], second: &'a [u8], target: &mut [u8]) -> Outcome
+    ensures { λ r. ⌜ Merges layout1 (now (first .entry)) (now (second .entry)) (now (target .entry)) r (now (target .exit)) ⌝ }
 {
     merging::merge::merge(first, second, target)
 }

@@ -9,25 +9,25 @@ use native.Mathlib.Omega.{arith}
 use lib.ListN.{length}
 use lib.Dec.{leb, ltb, eqb}
 use borrow.Author.Tests.{ltb-false}
-use Rattle.multiset.specs.Multisets.{copies, slotOf, largest, removed}
+use Rattle.multiset.specs.Multisets.{copies, slotOf, largest, added, removed}
 use Rattle.multiset.proofs.MultisetLaws.{copies-le-length}
 use Rattle.crumbmap.specs.Layouts.{layout1, fronts, backyards}
 use Rattle.crumbmap.specs.Fingerprints.{frontOf, keyOf}
-use Rattle.crumbmap.specs.CrumbMap.{firstBucket, secondBucket, firstCrumb, secondCrumb, bucketOf}
+use Rattle.crumbmap.specs.CrumbMap.{firstBucket, secondBucket, firstCrumb, secondCrumb, bucketOf, crumbOf}
 use Rattle.crumbmap.proofs.CrumbMapLaws.{bucketOf-lt}
 use Rattle.crumbmap.proofs.FingerprintLaws.{frontOf-lt}
 use Rattle.buckets.specs.Buckets.{carrying, frontMembers, backMembers}
 use Rattle.machine.specs.Results.{Result, accepted, refused, andThen, orUnsound, orRefused}
-use Rattle.machine.specs.Images.{sized, sizeOf, frontAt, backAt, bucketAt}
+use Rattle.machine.specs.Images.{sized, sizeOf, frontAt, backAt, putBack, bucketAt}
 use Rattle.machine.specs.Bags.{has, fromFirst}
-use Rattle.machine.specs.Machine.{Place, nowhere, front, first, second, changed, asked, counted, backyard, overflow, insertAt, takeOut, refill, deleteAt, askAt, countAt, membersAt}
+use Rattle.machine.specs.Machine.{Place, nowhere, front, first, second, changed, asked, counted, backyard, overflow, taker, takeIn, insertAt, takeOut, refill, deleteAt, askAt, countAt, membersAt}
 use Rattle.machine.specs.Pages.{Run, runFrom, pageFrom}
 use Rattle.machine.specs.Checks.{orLater, unsoundFront, unsoundBack, bucketInTurn, early, checkSized}
 use Rattle.machine.specs.Merges.{insertAll, mergeFrom, mergeSized}
 use Rattle.machine.specs.Calls.{freshOf, insertOf, deleteOf, askOf, countOf, pageOf, checkOf, mergeOf}
 use Rattle.machine.proofs.ImageLaws.{sizeOf-some}
 use Rattle.answers.specs.Pairs.{answerValue}
-use Rattle.answers.proofs.RoomLaws.{frontAt-room, backAt-room, backyard-room, run-count, slotOf-lt}
+use Rattle.machine.proofs.RoomLaws.{frontAt-room, backAt-room, backyard-room, run-count, slotOf-lt}
 use Rattle.capi.specs.Packing.{Within, taken, barred, nothing, placeWord, askWord, countWord, runWord}
 use Rattle.capi.proofs.ResultLaws.{within-then, within-cond, within-found, within-unless}
 
@@ -88,14 +88,22 @@ module _ (B f : ℕ) (img : List ℕ) (l : B ≤ 65536) (h : f < fronts B) where
   unfolding backyards
   answer-lt t = omega (arith, bucketOf-lt t B f h)
 
+  takeIn-fits : (v : ℕ) (b : List ℕ × List ℕ) (i : List ℕ) → Within answerValue cap (takeIn layout1 B f v b i)
+  unfolding takeIn
+  takeIn-fits v b i = go (taker layout1 (length (b .0)) (length (b .1)))
+    where
+      go : (o : Option Bool) → Within answerValue cap (andThen (orRefused 4 o) λ t.
+          changed (1 + bucketOf t B f) (putBack layout1 B (bucketOf t B f) (added (v * 16 + crumbOf t f) (cond t (b .0) (b .1))) i))
+      go none = bar 4 0 (omega arith) (omega arith)
+      go (some t) = changed-fits (1 + bucketOf t B f) _ (answer-lt t)
+
   insertAt-fits : (x : ℕ) → Within answerValue cap (insertAt layout1 B f x img)
   unfolding insertAt
   insertAt-fits x =
       within-then (frontAt layout1 f img) _ frontAt-sound (λ xs e.
-      within-cond (ltb (length xs) 28) _ _ (λ _. changed-fits 0 _ (omega arith)) (λ _.
+      within-cond (ltb (length xs) (layout1 .frontSlots)) _ _ (λ _. changed-fits 0 _ (omega arith)) (λ _.
       within-then (backyard layout1 B f img) _ backyard-sound (λ b g.
-      within-cond (eqb (length (b .0)) 22 && eqb (length (b .1)) 22) _ _ (λ _. bar 4 0 (omega arith) (omega arith)) (λ _.
-      changed-fits (1 + bucketOf (ltb (length (b .0)) (length (b .1))) B f) _ (answer-lt (ltb (length (b .0)) (length (b .1))))))))
+      takeIn-fits (largest (added x xs)) b _)))
 
   takeOut-fits : (v : ℕ) (b : List ℕ × List ℕ) (i : List ℕ) → Within answerValue cap (takeOut layout1 B f v b i)
   unfolding takeOut
@@ -113,9 +121,9 @@ module _ (B f : ℕ) (img : List ℕ) (l : B ≤ 65536) (h : f < fronts B) where
   deleteAt-fits x =
       within-then (frontAt layout1 f img) _ frontAt-sound (λ xs e.
       within-cond (has x xs) _ _
-      (λ _. within-cond (ltb (length xs) 28) _ _ (λ _. changed-fits 0 _ (omega arith)) (λ _.
+      (λ _. within-cond (ltb (length xs) (layout1 .frontSlots)) _ _ (λ _. changed-fits 0 _ (omega arith)) (λ _.
       within-then (backyard layout1 B f img) _ backyard-sound (λ b g. refill-fits (removed x xs) (overflow layout1 B f b) b img)))
-      (λ _. within-cond (eqb (length xs) 28 && ltb (largest xs) x) _ _ (λ _.
+      (λ _. within-cond (eqb (length xs) (layout1 .frontSlots) && ltb (largest xs) x) _ _ (λ _.
       within-then (backyard layout1 B f img) _ backyard-sound (λ b g.
       within-cond (has x (overflow layout1 B f b)) _ _ (λ _. takeOut-fits x b img) (λ _. bar 5 0 (omega arith) (omega arith))))
       (λ _. bar 5 0 (omega arith) (omega arith))))
@@ -125,7 +133,7 @@ module _ (B f : ℕ) (img : List ℕ) (l : B ≤ 65536) (h : f < fronts B) where
   askAt-fits x =
       within-then (frontAt layout1 f img) _ frontAt-sound (λ xs e.
       within-found (slotOf x xs) _ _ (λ i s. asked-fits 1 (front i) (omega (arith, slotOf-lt x xs i s, frontAt-room layout1 f img xs e)))
-      (within-cond (eqb (length xs) 28 && ltb (largest xs) x) _ _
+      (within-cond (eqb (length xs) (layout1 .frontSlots) && ltb (largest xs) x) _ _
       (λ _. within-then (backAt layout1 B (firstBucket f) img) _ (backAt-sound (firstBucket f) (bucketOf-lt true B f h)) (λ ys d.
       within-found (slotOf (x * 16 + firstCrumb f) ys) _ _
       (λ i s. asked-fits 2 (first i) (omega (arith, slotOf-lt (x * 16 + firstCrumb f) ys i s, backAt-room layout1 B (firstBucket f) img ys d)))
@@ -139,7 +147,7 @@ module _ (B f : ℕ) (img : List ℕ) (l : B ≤ 65536) (h : f < fronts B) where
   unfolding countAt
   countAt-fits x =
       within-then (frontAt layout1 f img) _ frontAt-sound (λ xs e.
-      within-cond (eqb (length xs) 28 && leb (largest xs) x) _ _
+      within-cond (eqb (length xs) (layout1 .frontSlots) && leb (largest xs) x) _ _
       (λ _. within-then (backyard layout1 B f img) _ backyard-sound (λ b g.
       let r = backyard-room layout1 B f img b g in
       counted-fits 3 (copies x xs + copies (x * 16 + firstCrumb f) (b .0) + copies (x * 16 + secondCrumb f) (b .1))
@@ -158,7 +166,7 @@ module _ (B f : ℕ) (img : List ℕ) (l : B ≤ 65536) (h : f < fronts B) where
   unfolding membersAt
   membersAt-sound =
       within-then (frontAt layout1 f img) _ frontAt-sound (λ xs e.
-      within-cond (ltb (length xs) 28) _ _ (λ _. pass xs) (λ _.
+      within-cond (ltb (length xs) (layout1 .frontSlots)) _ _ (λ _. pass xs) (λ _.
       within-then (backyard layout1 B f img) _ backyard-sound (λ b g. pass _)))
 
 -- ---- calls at one front bucket

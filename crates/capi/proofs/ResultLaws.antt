@@ -11,9 +11,9 @@ use Rattle.machine.specs.Results.{Result, accepted, refused, andThen}
 use Rattle.machine.specs.Machine.{found}
 use Rattle.machine.specs.Checks.{unless}
 use Rattle.machine.specs.Pages.{Run}
-use Rattle.answers.specs.Answers.{doneOf, blank, pagedOf, extentOf}
-use Rattle.answers.specs.declared.Done.{Done}
-use Rattle.answers.specs.declared.Paged.{Paged}
+use Rattle.answers.specs.Answers.{outcomeOf, blank, pagedOf, extentOf}
+use Rattle.answers.specs.declared.Outcome.{Outcome}
+use Rattle.answers.specs.declared.PageResult.{PageResult}
 use Rattle.answers.specs.Pairs.{saidOf}
 use Rattle.answers.specs.declared.pairs.Said.{Said}
 use Rattle.answers.proofs.PairLaws.{said-mapped}
@@ -59,8 +59,8 @@ within-unless (some i) r h g k = barred h (g i refl)
 
 -- ---- what the code gives of a call that is m on the machine
 
-pub said-done : (m : Result (List ℕ)) (r : Done) (s : Said) → s ≡ saidOf nothing (doneOf r) → doneOf r ≡ blank m → s ≡ saidOf nothing m
+pub said-done : (m : Result (List ℕ)) (r : Outcome) (s : Said) → s ≡ saidOf nothing (outcomeOf r) → outcomeOf r ≡ blank m → s ≡ saidOf nothing m
 said-done m r s e f = e ∙ rw f (said-mapped nothing (λ (i : List ℕ). tt) m)
 
-pub said-paged : (m : Result Run) (r : Paged) (s : Said) → s ≡ saidOf extentWord (pagedOf r) → pagedOf r ≡ extentOf m → s ≡ saidOf runWord m
+pub said-paged : (m : Result Run) (r : PageResult) (s : Said) → s ≡ saidOf extentWord (pagedOf r) → pagedOf r ≡ extentOf m → s ≡ saidOf runWord m
 said-paged m r s e f = e ∙ rw f (said-mapped extentWord (λ (p : Run). (length (p .entries), p .next)) m)

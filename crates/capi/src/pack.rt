@@ -1,15 +1,15 @@
 // Answers as numbers for C, and a number with its value packed.
 
-use answers::Answer;
-use answers::Done;
-use answers::Paged;
+use answers::AskResult;
+use answers::CountResult;
+use answers::Outcome;
+use answers::PageResult;
 use answers::Place;
-use answers::Tally;
 use answers::pairs::Said;
 use answers::pairs::refused;
 ghost use mathlib.Core.Path.{_≡_};
 ghost use Prim.Native.Nat.{_^_, _<_};
-ghost use Rattle.answers.specs.Answers.{doneOf, placeOf, askedOf, countedOf, pagedOf};
+ghost use Rattle.answers.specs.Answers.{outcomeOf, placeOf, askedOf, countedOf, pagedOf};
 ghost use Rattle.answers.specs.Pairs.{saidOf};
 ghost use Rattle.capi.specs.Packing.{pack, Packs, Within, nothing, placeWord, askWord, countWord, extentWord};
 
@@ -22,32 +22,32 @@ pub(crate) fn packed(said: Said) -> u64
 }
 
 // What a fresh, a check or a merge gives.
-pub(crate) fn done(given: Done) -> Said
-    ensures { λ s. ⌜ s ≡ saidOf nothing (doneOf given) ⌝ }
+pub(crate) fn done(given: Outcome) -> Said
+    ensures { λ s. ⌜ s ≡ saidOf nothing (outcomeOf given) ⌝ }
 {
     match given {
-        Done::Accepted => Said {
+        Outcome::Accepted => Said {
             number: 0,
             value: 0,
         },
-        Done::Refused(why) => refused(why),
+        Outcome::Refused(why) => refused(why),
     }
 }
 
 // What an ask gives.
-pub(crate) fn asked(given: Answer) -> Said
+pub(crate) fn asked(given: AskResult) -> Said
     requires { ⌜ Within askWord (2 ^ 56) (askedOf given) ⌝ }
     ensures { λ s. ⌜ s ≡ saidOf askWord (askedOf given) ⌝ }
 {
     match given {
-        Answer::Accepted(found) => {
+        AskResult::Accepted(found) => {
             let place = found.place;
             Said {
                 number: 0,
                 value: (found.reads as u64) + place_word(place),
             }
         }
-        Answer::Refused(why) => refused(why),
+        AskResult::Refused(why) => refused(why),
     }
 }
 
@@ -65,29 +65,29 @@ fn place_word(place: Place) -> u64
 }
 
 // What a count gives.
-pub(crate) fn counted(given: Tally) -> Said
+pub(crate) fn counted(given: CountResult) -> Said
     requires { ⌜ Within countWord (2 ^ 56) (countedOf given) ⌝ }
     ensures { λ s. ⌜ s ≡ saidOf countWord (countedOf given) ⌝ }
 {
     match given {
-        Tally::Accepted(tally) => Said {
+        CountResult::Accepted(count) => Said {
             number: 0,
-            value: (tally.copies as u64) + 4294967296 * (tally.reads as u64),
+            value: (count.copies as u64) + 4294967296 * (count.reads as u64),
         },
-        Tally::Refused(why) => refused(why),
+        CountResult::Refused(why) => refused(why),
     }
 }
 
 // What a page gives.
-pub(crate) fn paged(given: Paged) -> Said
+pub(crate) fn paged(given: PageResult) -> Said
     requires { ⌜ Within extentWord (2 ^ 56) (pagedOf given) ⌝ }
     ensures { λ s. ⌜ s ≡ saidOf extentWord (pagedOf given) ⌝ }
 {
     match given {
-        Paged::Accepted(n, next) => Said {
+        PageResult::Accepted(n, next) => Said {
             number: 0,
             value: (n as u64) + 4294967296 * (next as u64),
         },
-        Paged::Refused(why) => refused(why),
+        PageResult::Refused(why) => refused(why),
     }
 }

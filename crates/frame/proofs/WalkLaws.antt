@@ -11,13 +11,13 @@ use Rattle.machine.specs.Results.{accepted, refused}
 use Rattle.machine.specs.Images.{sizeOf, lengthOf}
 use Rattle.machine.specs.Pages.{Run, pageFrom}
 use Rattle.machine.specs.Calls.{pageOf}
-use Rattle.answers.proofs.PairLaws.{accepted-eq, andThen-accepted}
-use Rattle.answers.proofs.RoomLaws.{run-whole}
+use Rattle.machine.proofs.AcceptedLaws.{same-answer, andThen-accepted}
+use Rattle.machine.proofs.RoomLaws.{run-whole}
 use Rattle.frame.specs.Frames.{room}
 
 kept-run : (t : Bool) (q r : Run) → t ≡ false → cond t (refused 7 0) (accepted q) ≡ accepted r → q ≡ r
 kept-run true q r h e = let z : _≡_ {A = ℕ} 0 1 = cc in absurd (omega arith)
-kept-run false q r h e = accepted-eq q r e
+kept-run false q r h e = same-answer e
 
 page-end : (q r : Run) → q .next ≡ 24 → cond (eqb (q .next) 0 && ltb 0 24) (refused 7 0) (accepted q) ≡ accepted r → r .next ≡ 24
 page-end q r n e =

@@ -3,10 +3,10 @@
 use crate::Frame;
 use crate::Printed;
 use crate::parse::parse;
-use answers::Answer;
-use answers::Paged;
+use answers::AskResult;
+use answers::CountResult;
+use answers::PageResult;
 use answers::Place;
-use answers::Tally;
 use answers::pairs::Said;
 use answers::pairs::changed;
 use answers::pairs::refused;
@@ -57,18 +57,18 @@ fn perform(image: &mut [u8], frame: Frame, out: &mut [u8]) -> usize
 }
 
 // "For ask, reads + 16 × place (0 none, 1 front, 2 first, 3 second)."
-fn asked(given: Answer) -> Said
+fn asked(given: AskResult) -> Said
     ensures { λ s. ⌜ s ≡ saidOf askValue (askedOf given) ⌝ }
 {
     match given {
-        Answer::Accepted(found) => {
+        AskResult::Accepted(found) => {
             let place = found.place;
             Said {
                 number: 0,
                 value: (found.reads as u64) + 16 * place_number(place),
             }
         }
-        Answer::Refused(why) => refused(why),
+        AskResult::Refused(why) => refused(why),
     }
 }
 
@@ -84,15 +84,15 @@ fn place_number(place: Place) -> u64
 }
 
 // "For count, its copies."
-fn counted(given: Tally) -> Said
+fn counted(given: CountResult) -> Said
     ensures { λ s. ⌜ s ≡ saidOf copiesValue (countedOf given) ⌝ }
 {
     match given {
-        Tally::Accepted(tally) => Said {
+        CountResult::Accepted(count) => Said {
             number: 0,
-            value: tally.copies as u64,
+            value: count.copies as u64,
         },
-        Tally::Refused(why) => refused(why),
+        CountResult::Refused(why) => refused(why),
     }
 }
 
@@ -113,7 +113,7 @@ fn list_by(image: &[u8], entries: &mut [u64], out: &mut [u8]) -> usize
     ensures { λ n. ⌜ now (out .exit) ≡ over 0 (listText (pageOf layout1 (now (image .entry)) 0 room)) (now (out .entry)) ⌝ }
 {
     match page(image, 0, entries) {
-        Paged::Accepted(n, _) => {
+        PageResult::Accepted(n, _) => {
             put_line(
                 out,
                 5,
@@ -125,6 +125,6 @@ fn list_by(image: &[u8], entries: &mut [u64], out: &mut [u8]) -> usize
             put_entries(out, &entries[0..n]);
             21 + 17 * n
         }
-        Paged::Refused(why) => put_line(out, 5, refused(why)),
+        PageResult::Refused(why) => put_line(out, 5, refused(why)),
     }
 }

@@ -6,10 +6,10 @@ use native.Mathlib.Omega.{arith}
 use lib.ListN.{length, take, drop}
 use lib.Seq.{length-take-le, length-slice}
 use Rattle.lines.specs.Inputs.{startImage, imageOfInput}
-use Rattle.lines.specs.Turns.{Steps, Taken, none, step, start, piece, joined}
+use Rattle.lines.specs.Steps.Turns.{Steps, Taken, none, step, start, piece, joined}
 use Rattle.lines.specs.declared.Step.{Step}
 use Rattle.lines.proofs.TurnLaws.{whole}
-use Rattle.frames.specs.Runs.{Took, Came, Ran}
+use Rattle.frames.specs.Steps.Runs.{Took, Came, Ran}
 
 pub took-none : (img held p : List ℕ) → Took img held p 0 img held
 took-none img held p = record { text = []; taken = none }

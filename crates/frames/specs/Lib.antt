@@ -1,2 +1,2 @@
 -- What reading and writing leave of the program's image.
-pub mod Runs
+pub mod Steps

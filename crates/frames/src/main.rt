@@ -9,7 +9,8 @@ ghost use mathlib.Core.Path.{_≡_};
 ghost use Prim.Native.Nat.{_≤_};
 ghost use lib.ListN.{length, take};
 ghost use Rattle.lines.specs.Inputs.{startImage};
-ghost use Rattle.frames.specs.Runs.{Took, Ran};
+ghost use Rattle.lines.specs.Steps.Turns.{Room};
+ghost use Rattle.frames.specs.Steps.Runs.{Took, Ran};
 
 fn main() {
     let mut image = [0u8; 2176];
@@ -21,7 +22,7 @@ fn main() {
 
 // Reads to the end of the input. A proved loop has to end, and nothing says that the input does: it counts down from a number that no run uses up.
 fn run(image: &mut [u8], line: &mut [u8], out: &mut [u8])
-    requires { ⌜ (length (now image) ≡ 2176) × (length (now line) ≡ 19) × (length (now out) ≡ 29397) × (now image ≡ startImage) ⌝ }
+    requires { ⌜ Room (now image) (now line) 0 (now out) × (now image ≡ startImage) ⌝ }
     ensures { λ _. ⌜ Ran (now (image .exit)) ⌝ }
 {
     let mut held = 0;
@@ -49,7 +50,7 @@ fn take_in(
     held: usize,
     out: &mut [u8],
 ) -> usize
-    requires { ⌜ (length (now image) ≡ 2176) × (length (now line) ≡ 19) × (held ≤ 19) × (length (now out) ≡ 29397) × (n ≤ length (now buffer)) ⌝ }
+    requires { ⌜ Room (now image) (now line) held (now out) × (n ≤ length (now buffer)) ⌝ }
     ensures { λ h. ⌜ (h ≤ 19) × Took (now (image .entry)) (take held (now (line .entry))) (take n (now (buffer .entry))) n (now (image .exit)) (take h (now (line .exit))) ⌝ }
 {
     let mut h = held;

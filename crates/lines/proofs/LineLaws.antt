@@ -14,7 +14,7 @@ use Rattle.frame.specs.Frames.{frameOf}
 use Rattle.frame.specs.declared.Frame.{Frame}
 use Rattle.frame.proofs.FrameLaws.{frame-length}
 use Rattle.lines.specs.Inputs.{lastLine, linesAfter, framesAfter, textOfFrames, outputOf}
-use Rattle.lines.specs.Turns.{kept, Reads}
+use Rattle.lines.specs.Steps.Turns.{kept, Reads}
 
 -- ---- lines joined
 

@@ -18,7 +18,7 @@ use Rattle.frame.specs.declared.Printed.the-variants.{Text, Unfit}
 use Rattle.text.proofs.PrintLaws.{over-whole}
 use Rattle.frame.proofs.PerformLaws.{fit-both}
 use Rattle.lines.specs.Inputs.{linesAfter, framesAfter, textOfFrames, imageOfFrames, startImage, outputOf, imageOfInput}
-use Rattle.lines.specs.Turns.{Turn, Holds, Replies, Steps, Ends, Taken, none, step, Run, start, piece, joined}
+use Rattle.lines.specs.Steps.Turns.{Turn, Holds, Replies, Steps, Ends, Taken, none, step, Run, start, piece, joined}
 use Rattle.lines.specs.declared.Held.{Held}
 use Rattle.lines.specs.declared.Step.{Step}
 use Rattle.lines.proofs.LineLaws.{reads-none, reads-newline, reads-on}

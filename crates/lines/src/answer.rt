@@ -5,7 +5,7 @@ use frame::perform::frame;
 ghost use mathlib.Core.Path.{_≡_};
 ghost use Prim.Native.Nat.{_≤_};
 ghost use lib.ListN.{length, take};
-ghost use Rattle.lines.specs.Turns.{Replies, Ends};
+ghost use Rattle.lines.specs.Steps.Turns.{Room, Replies, Ends};
 
 // A line without its newline; how many bytes of text stand in `out`.
 pub(crate) fn answer(image: &mut [u8], line: &[u8], out: &mut [u8]) -> usize
@@ -20,7 +20,7 @@ pub(crate) fn answer(image: &mut [u8], line: &[u8], out: &mut [u8]) -> usize
 
 // The input has ended: "a last line needs no newline".
 pub fn finish(image: &mut [u8], line: &[u8], held: usize, out: &mut [u8]) -> usize
-    requires { ⌜ (length (now image) ≡ 2176) × (length (now line) ≡ 19) × (held ≤ 19) × (length (now out) ≡ 29397) ⌝ }
+    requires { ⌜ Room (now image) (now line) held (now out) ⌝ }
     ensures { λ n. ⌜ Ends (now (image .entry)) (take held (now (line .entry))) n (now (image .exit)) (now (out .exit)) ⌝ }
 {
     if 0 < held {

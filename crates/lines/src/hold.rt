@@ -4,7 +4,7 @@ use crate::Held;
 ghost use mathlib.Core.Path.{_≡_};
 ghost use Prim.Native.Nat.{_≤_};
 ghost use lib.ListN.{length, take};
-ghost use Rattle.lines.specs.Turns.{kept, Holds};
+ghost use Rattle.lines.specs.Steps.Turns.{kept, Holds};
 
 // Bytes up to the next newline, or all of them, after `held` bytes of a line.
 pub(crate) fn hold(bytes: &[u8], line: &mut [u8], held: usize) -> Held

@@ -8,7 +8,7 @@ ghost use mathlib.Core.Path.{_≡_};
 ghost use Prim.Native.Nat.{_≤_};
 ghost use lib.ListN.{length, take, drop};
 ghost use Rattle.lines.specs.Inputs.{startImage};
-ghost use Rattle.lines.specs.Turns.{Steps};
+ghost use Rattle.lines.specs.Steps.Turns.{Room, Steps};
 
 // "A fresh image with B = 3."
 pub fn start(image: &mut [u8])
@@ -28,7 +28,7 @@ pub fn step(
     held: usize,
     out: &mut [u8],
 ) -> Step
-    requires { ⌜ (length (now image) ≡ 2176) × (length (now line) ≡ 19) × (held ≤ 19) × (length (now out) ≡ 29397) ⌝ }
+    requires { ⌜ Room (now image) (now line) held (now out) ⌝ }
     requires { ⌜ (n ≤ length (now buffer)) × (from ≤ n) ⌝ }
     ensures { λ s. ⌜ Steps (now (image .entry)) (take held (now (line .entry))) (drop from (take n (now (buffer .entry)))) s (now (image .exit)) (now (line .exit)) (now (out .exit)) ⌝ }
 {
@@ -37,7 +37,7 @@ pub fn step(
 
 // The same on the bytes alone.
 fn take_line(image: &mut [u8], bytes: &[u8], line: &mut [u8], held: usize, out: &mut [u8]) -> Step
-    requires { ⌜ (length (now image) ≡ 2176) × (length (now line) ≡ 19) × (held ≤ 19) × (length (now out) ≡ 29397) ⌝ }
+    requires { ⌜ Room (now image) (now line) held (now out) ⌝ }
     ensures { λ s. ⌜ Steps (now (image .entry)) (take held (now (line .entry))) (now (bytes .entry)) s (now (image .exit)) (now (line .exit)) (now (out .exit)) ⌝ }
 {
     let h = hold(bytes, line, held);

@@ -23,7 +23,7 @@ use stored::sum::of_merge;
 use stored::sum::of_page;
 
 // What a line did: other lengths of the images; a call's operation, its answer and the checksum of the bytes that it was lent; or neither.
-pub enum Done {
+pub enum Outcome {
     Lengths(Lengths),
     Said(u64, u64, u64),
     Nothing,
@@ -37,9 +37,9 @@ pub fn step(
     b: &mut [u8],
     c: &mut [u8],
     out: &mut [u64],
-) -> Done {
+) -> Outcome {
     let Parsed::Line(line) = parse(text) else {
-        return Done::Nothing;
+        return Outcome::Nothing;
     };
     let target = line.target;
     match target {
@@ -57,19 +57,19 @@ fn perform<'a>(
     upper: &'a [u8],
     buffer: &mut [u8],
     out: &mut [u64],
-) -> Done {
+) -> Outcome {
     let operation = line.operation;
     let target = line.target;
     let n = length_of(lengths, target);
     if operation == 0 {
-        return Done::Lengths(with_length(lengths, target, zeroed(buffer, n, line.q)));
+        return Outcome::Lengths(with_length(lengths, target, zeroed(buffer, n, line.q)));
     }
     let first = picked(lower, upper, lengths, line.first, target);
     if operation == 10 {
-        return Done::Lengths(with_length(lengths, target, copied(first, buffer, n)));
+        return Outcome::Lengths(with_length(lengths, target, copied(first, buffer, n)));
     }
     if buffer.len() < n {
-        return Done::Nothing;
+        return Outcome::Nothing;
     }
     let image = &mut buffer[0..n];
     if operation == 8 {
@@ -83,10 +83,10 @@ fn perform<'a>(
 }
 
 // A line on one image, which keeps its length.
-fn within(operation: u64, image: &mut [u8], p: u64, q: usize, out: &mut [u64]) -> Done {
+fn within(operation: u64, image: &mut [u8], p: u64, q: usize, out: &mut [u64]) -> Outcome {
     if operation == 9 {
         poke(image, q, p);
-        return Done::Nothing;
+        return Outcome::Nothing;
     }
     if operation == 5 {
         return page(image, p, out, q);
@@ -95,12 +95,12 @@ fn within(operation: u64, image: &mut [u8], p: u64, q: usize, out: &mut [u64]) -
 }
 
 // The calls on one image: insert, delete, ask, count, fresh and check. There is no other operation.
-fn call(operation: u64, image: &mut [u8], hash: u64) -> Done {
+fn call(operation: u64, image: &mut [u8], hash: u64) -> Outcome {
     if 7 < operation {
-        return Done::Nothing;
+        return Outcome::Nothing;
     }
     let answer = answer_of(operation, image, hash);
-    Done::Said(operation, answer, of_image(image))
+    Outcome::Said(operation, answer, of_image(image))
 }
 
 // What it gives: 7, a check, is the last that is left.
@@ -116,14 +116,14 @@ fn answer_of(operation: u64, image: &mut [u8], hash: u64) -> u64 {
 }
 
 // A page into the first q entries of `out`, if there are so many.
-fn page(image: &[u8], from: u64, out: &mut [u64], q: usize) -> Done {
+fn page(image: &[u8], from: u64, out: &mut [u64], q: usize) -> Outcome {
     if out.len() < q {
-        return Done::Nothing;
+        return Outcome::Nothing;
     }
     let out = &mut out[0..q];
     fill(out);
     let answer = bcf_page(image, from, out);
-    Done::Said(5, answer, of_page(image, out))
+    Outcome::Said(5, answer, of_page(image, out))
 }
 
 // Entry i becomes 2^64 - 1 - i.
@@ -136,7 +136,7 @@ fn fill(out: &mut [u64]) {
 }
 
 // Two images into a third.
-fn merge<'a>(first: &'a [u8], second: &'a [u8], target: &mut [u8]) -> Done {
+fn merge<'a>(first: &'a [u8], second: &'a [u8], target: &mut [u8]) -> Outcome {
     let answer = bcf_merge(first, second, target);
-    Done::Said(8, answer, of_merge(first, second, target))
+    Outcome::Said(8, answer, of_merge(first, second, target))
 }

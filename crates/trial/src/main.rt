@@ -1,19 +1,19 @@
 // Reads the stored calls from standard input, has them performed on three images, and prints each answer with the checksum of the bytes that the call was lent.
 
-use replay::perform::Done;
+use replay::perform::Outcome;
 use replay::perform::step;
 use stored::images::Lengths;
 use stored::said::put_said;
 
 // The answer of a call is printed; the lengths of the images after what was done.
-fn told(done: Done, lengths: Lengths) -> Lengths {
+fn told(done: Outcome, lengths: Lengths) -> Lengths {
     match done {
-        Done::Lengths(others) => others,
-        Done::Said(operation, answer, sum) => {
+        Outcome::Lengths(others) => others,
+        Outcome::Said(operation, answer, sum) => {
             print(operation, answer, sum);
             lengths
         }
-        Done::Nothing => lengths,
+        Outcome::Nothing => lengths,
     }
 }
 

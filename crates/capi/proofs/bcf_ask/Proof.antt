@@ -6,9 +6,6 @@ use borrow.Author.Needs.{needs}
 use Rattle.capi.proofs.bcf_ask.Statement.{statement}
 use Rattle.capi.proofs.bcf_ask.Tie as tie
 
-ask-requires : tie.Need-ask-requires
-ask-requires c κs = search needs
-
 asked-requires : tie.Need-asked-requires
 asked-requires c κs = let s = c .before .before in rw (c .ask .ensures) (ask-fits (s .args .image .now) (s .args .hash) (s .fits .hash .fits))
 
@@ -21,4 +18,4 @@ returns : tie.Need-returns
 returns c = c .packed .ensures ∙ rw (c .before .asked .ensures, c .before .before .ask .ensures)
 
 pub bcf-ask-spec : {M : Type 1} → statement M
-bcf-ask-spec = tie.close (tie.spec ask-requires asked-requires packed-requires returns)
+bcf-ask-spec = tie.close (tie.spec (λ c κs. search needs) asked-requires packed-requires returns)

@@ -6,12 +6,6 @@ use borrow.Author.Needs.{needs}
 use Rattle.capi.proofs.bcf_check.Statement.{statement}
 use Rattle.capi.proofs.bcf_check.Tie as tie
 
-check-requires : tie.Need-check-requires
-check-requires c κs = search needs
-
-done-requires : tie.Need-done-requires
-done-requires c κs = search needs
-
 packed-requires : tie.Need-packed-requires
 packed-requires c κs = rw (c .done .ensures, c .before .check .ensures) (within-packs (check-fits (c .before .before .before .args .image .now)))
 
@@ -19,4 +13,4 @@ returns : tie.Need-returns
 returns c = c .packed .ensures ∙ rw (c .before .done .ensures, c .before .before .check .ensures)
 
 pub bcf-check-spec : {M : Type 1} → statement M
-bcf-check-spec = tie.close (tie.spec check-requires done-requires packed-requires returns)
+bcf-check-spec = tie.close (tie.spec (λ c κs. search needs) (λ c κs. search needs) packed-requires returns)

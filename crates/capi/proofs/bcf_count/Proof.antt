@@ -6,9 +6,6 @@ use borrow.Author.Needs.{needs}
 use Rattle.capi.proofs.bcf_count.Statement.{statement}
 use Rattle.capi.proofs.bcf_count.Tie as tie
 
-count-requires : tie.Need-count-requires
-count-requires c κs = search needs
-
 counted-requires : tie.Need-counted-requires
 counted-requires c κs = let s = c .before .before in rw (c .count .ensures) (count-fits (s .args .image .now) (s .args .hash) (s .fits .hash .fits))
 
@@ -21,4 +18,4 @@ returns : tie.Need-returns
 returns c = c .packed .ensures ∙ rw (c .before .counted .ensures, c .before .before .count .ensures)
 
 pub bcf-count-spec : {M : Type 1} → statement M
-bcf-count-spec = tie.close (tie.spec count-requires counted-requires packed-requires returns)
+bcf-count-spec = tie.close (tie.spec (λ c κs. search needs) counted-requires packed-requires returns)

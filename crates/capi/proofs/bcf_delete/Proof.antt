@@ -10,12 +10,6 @@ use borrow.Author.Needs.{needs}
 use Rattle.capi.proofs.bcf_delete.Statement.{statement}
 use Rattle.capi.proofs.bcf_delete.Tie as tie
 
-delete-requires : tie.Need-delete-requires
-delete-requires c κs = search needs
-
-changed-requires : tie.Need-changed-requires
-changed-requires c κs = search needs
-
 abbrev start : tie.After-changed → tie.Start
 start c = c .before .before .before .before .before .before
 
@@ -28,12 +22,9 @@ said c =
 packed-requires : tie.Need-packed-requires
 packed-requires c κs = let s = start c in rw (said c) (within-packs (delete-fits (s .args .image .now) (s .args .hash) (s .fits .hash .fits)))
 
-same-length : tie.Need-same-length
-same-length c = search needs
-
 returns : tie.Need-returns
 returns c = (c .packed .ensures ∙ rw (said (c .before)), c .before .before .before .before .delete .ensures .bytes)
 
 pub bcf-delete-spec : {M : Type 1} → statement M
 bcf-delete-spec =
-    tie.close (tie.spec delete-requires changed-requires packed-requires same-length returns)
+    tie.close (tie.spec (λ c κs. search needs) (λ c κs. search needs) packed-requires (λ c. search needs) returns)

@@ -13,12 +13,6 @@ use borrow.Author.Needs.{needs}
 use Rattle.capi.proofs.bcf_fresh.Statement.{statement}
 use Rattle.capi.proofs.bcf_fresh.Tie as tie
 
-fresh-requires : tie.Need-fresh-requires
-fresh-requires c κs = search needs
-
-done-requires : tie.Need-done-requires
-done-requires c κs = search needs
-
 -- what is asked of the machine
 abbrev asked : tie.After-done → Result (List ℕ)
 asked c = let a = c .before .before .before .before .before .before .args in freshOf layout1 (a .image .now)
@@ -30,12 +24,9 @@ said c = let i = c .before .before .before in said-done (asked c) (i .fresh .res
 packed-requires : tie.Need-packed-requires
 packed-requires c κs = let a = c .before .before .before .before .before .before .args in rw (said c) (within-packs (fresh-fits (a .image .now)))
 
-same-length : tie.Need-same-length
-same-length c = search needs
-
 returns : tie.Need-returns
 returns c = (c .packed .ensures ∙ rw (said (c .before)), c .before .before .before .before .fresh .ensures .bytes)
 
 pub bcf-fresh-spec : {M : Type 1} → statement M
 bcf-fresh-spec =
-    tie.close (tie.spec fresh-requires done-requires packed-requires same-length returns)
+    tie.close (tie.spec (λ c κs. search needs) (λ c κs. search needs) packed-requires (λ c. search needs) returns)

@@ -10,12 +10,6 @@ use borrow.Author.Needs.{needs}
 use Rattle.capi.proofs.bcf_insert.Statement.{statement}
 use Rattle.capi.proofs.bcf_insert.Tie as tie
 
-insert-requires : tie.Need-insert-requires
-insert-requires c κs = search needs
-
-changed-requires : tie.Need-changed-requires
-changed-requires c κs = search needs
-
 abbrev start : tie.After-changed → tie.Start
 start c = c .before .before .before .before .before .before
 
@@ -28,12 +22,9 @@ said c =
 packed-requires : tie.Need-packed-requires
 packed-requires c κs = let s = start c in rw (said c) (within-packs (insert-fits (s .args .image .now) (s .args .hash) (s .fits .hash .fits)))
 
-same-length : tie.Need-same-length
-same-length c = search needs
-
 returns : tie.Need-returns
 returns c = (c .packed .ensures ∙ rw (said (c .before)), c .before .before .before .before .insert .ensures .bytes)
 
 pub bcf-insert-spec : {M : Type 1} → statement M
 bcf-insert-spec =
-    tie.close (tie.spec insert-requires changed-requires packed-requires same-length returns)
+    tie.close (tie.spec (λ c κs. search needs) (λ c κs. search needs) packed-requires (λ c. search needs) returns)

@@ -13,12 +13,6 @@ use borrow.Author.Needs.{needs}
 use Rattle.capi.proofs.bcf_merge.Statement.{statement}
 use Rattle.capi.proofs.bcf_merge.Tie as tie
 
-merge-requires : tie.Need-merge-requires
-merge-requires c κs = search needs
-
-done-requires : tie.Need-done-requires
-done-requires c κs = search needs
-
 -- what is asked of the machine
 abbrev asked : tie.After-done → Result (List ℕ)
 asked c = let a = c .before .before .before .before .before .before .before .before .args in mergeOf layout1 (a .first .now) (a .second .now) (a .target .now)
@@ -32,12 +26,9 @@ packed-requires c κs =
     let a = c .before .before .before .before .before .before .before .before .args in
     rw (said c) (within-packs (merge-fits (a .first .now) (a .second .now) (a .target .now)))
 
-same-length : tie.Need-same-length
-same-length c = search needs
-
 returns : tie.Need-returns
 returns c = (c .packed .ensures ∙ rw (said (c .before)), c .before .before .before .before .merge .ensures .bytes)
 
 pub bcf-merge-spec : {M : Type 1} → statement M
 bcf-merge-spec =
-    tie.close (tie.spec merge-requires done-requires packed-requires same-length returns)
+    tie.close (tie.spec (λ c κs. search needs) (λ c κs. search needs) packed-requires (λ c. search needs) returns)

@@ -13,9 +13,6 @@ use borrow.Author.Needs.{needs}
 use Rattle.capi.proofs.bcf_page.Statement.{statement}
 use Rattle.capi.proofs.bcf_page.Tie as tie
 
-page-requires : tie.Need-page-requires
-page-requires c κs = search needs
-
 paged-requires : tie.Need-paged-requires
 paged-requires c κs =
     let a = c .before .before .before .before .before .before .args in
@@ -35,12 +32,9 @@ packed-requires c κs =
     let a = c .before .before .before .before .before .before .before .args in
     rw (said c) (within-packs (page-fits (a .image .now) (a .start) (length (a .out .now))))
 
-same-length : tie.Need-same-length
-same-length c = search needs
-
 returns : tie.Need-returns
 returns c = (c .packed .ensures ∙ rw (said (c .before)), c .before .before .before .before .page .ensures .bytes)
 
 pub bcf-page-spec : {M : Type 1} → statement M
 bcf-page-spec =
-    tie.close (tie.spec page-requires paged-requires packed-requires same-length returns)
+    tie.close (tie.spec (λ c κs. search needs) paged-requires packed-requires (λ c. search needs) returns)

@@ -4,7 +4,7 @@ use mathlib.Core.Path.{_≡_, sym, _∙_}
 use Prim.Native.Nat.{_≤_}
 use lib.ListN.{length, take}
 use borrow.Author.Needs.{needs}
-use Rattle.frames.specs.Runs.{Came}
+use Rattle.frames.specs.Steps.Runs.{Came}
 use Rattle.frames.proofs.RunLaws.{came-none, came-more}
 use Rattle.frames.proofs.run.Statement.{statement}
 use Rattle.frames.proofs.run.Tie as tie
@@ -19,36 +19,12 @@ abbrev μ-loop : tie.MeasureT-loop
 loop-holds : tie.Need-loop-holds Inv-loop μ-loop
 loop-holds c =
     let s = c .before .before .before in
-    (s .pre .0, s .pre .1, s .pre .2, omega arith, came-none (s .args .image .now) (s .args .line .now) (s .pre .3))
-
-sub-turns : tie.Need-sub-turns Inv-loop μ-loop
-sub-turns c = omega arith
-
-buffer-requires : tie.Need-buffer-requires Inv-loop μ-loop
-buffer-requires c κs = search needs
-
-slice-aggregate-read : tie.Need-slice-aggregate-read Inv-loop μ-loop
-slice-aggregate-read c = search needs
-
-read-requires : tie.Need-read-requires Inv-loop μ-loop
-read-requires c κs = search needs
-
-slice-aggregate-count : tie.Need-slice-aggregate-count Inv-loop μ-loop
-slice-aggregate-count c = search needs
-
-count-requires : tie.Need-count-requires Inv-loop μ-loop
-count-requires c κs = search needs
-
-slice-aggregate-take-in : tie.Need-slice-aggregate-take-in Inv-loop μ-loop
-slice-aggregate-take-in c = search needs
+    (s .pre .0 .image, s .pre .0 .longest, s .pre .0 .text, omega arith, came-none (s .args .image .now) (s .args .line .now) (s .pre .1))
 
 take-in-requires : tie.Need-take-in-requires Inv-loop μ-loop
 take-in-requires c κs =
     let l = c .before .before .before .before .before .before .before .before .before .before .before .before .loop .inv in
-    (l .0, l .1, l .3, l .2, c .before .before .before .before .count .ensures .0 .0)
-
-loop-less : tie.Need-loop-less Inv-loop μ-loop
-loop-less c = omega arith
+    (record { image = l .0; longest = l .1; few = l .3; text = l .2 }, c .before .before .before .before .count .ensures .0 .0)
 
 loop-again : tie.Need-loop-again Inv-loop μ-loop
 loop-again c =
@@ -63,7 +39,7 @@ loop-again c =
     )
 
 finish-requires : tie.Need-finish-requires Inv-loop μ-loop
-finish-requires c κs = let l = c .before .before .before .before .loop .inv in (l .0, l .1, l .3, l .2)
+finish-requires c κs = let l = c .before .before .before .before .loop .inv in record { image = l .0; longest = l .1; few = l .3; text = l .2 }
 
 print-requires : tie.Need-print-requires Inv-loop μ-loop
 print-requires c κs = c .before .before .before .before .before .finish .ensures .room
@@ -72,18 +48,18 @@ same-length : tie.Need-same-length Inv-loop μ-loop
 same-length c =
     let f = c .before .before .before .before .before .before in
     let q = f .before .before .before .before .before in
-    f .finish .kept .0 ∙ q .loop .inv .0 ∙ sym (q .before .before .before .before .pre .0)
+    f .finish .kept .0 ∙ q .loop .inv .0 ∙ sym (q .before .before .before .before .pre .0 .image)
 
 same-length-2 : tie.Need-same-length-2 Inv-loop μ-loop
 same-length-2 c =
     let q = c .before .before .before .before .before .before .before .before .before .before .before in
-    q .loop .inv .1 ∙ sym (q .before .before .before .before .pre .1)
+    q .loop .inv .1 ∙ sym (q .before .before .before .before .pre .0 .longest)
 
 same-length-3 : tie.Need-same-length-3 Inv-loop μ-loop
 same-length-3 c =
     let f = c .before .before .before .before .before .before in
     let q = f .before .before .before .before .before in
-    f .finish .kept .1 .1 .1 .0 ∙ q .loop .inv .2 ∙ sym (q .before .before .before .before .pre .2)
+    f .finish .kept .1 .1 .1 .0 ∙ q .loop .inv .2 ∙ sym (q .before .before .before .before .pre .0 .text)
 
 returns : tie.Need-returns Inv-loop μ-loop
 returns c =
@@ -97,15 +73,15 @@ run-spec =
     Inv-loop
     μ-loop
     loop-holds
-    sub-turns
-    buffer-requires
-    slice-aggregate-read
-    read-requires
-    slice-aggregate-count
-    count-requires
-    slice-aggregate-take-in
+    (λ c. omega arith)
+    (λ c κs. search needs)
+    (λ c. search needs)
+    (λ c κs. search needs)
+    (λ c. search needs)
+    (λ c κs. search needs)
+    (λ c. search needs)
     take-in-requires
-    loop-less
+    (λ c. omega arith)
     loop-again
     finish-requires
     print-requires

@@ -3,7 +3,7 @@ use native.Mathlib.Omega.{arith}
 use mathlib.Core.Path.{_≡_, sym, _∙_}
 use Prim.Native.Nat.{_≤_, _-_}
 use lib.ListN.{length, take}
-use Rattle.frames.specs.Runs.{Took}
+use Rattle.frames.specs.Steps.Runs.{Took}
 use Rattle.frames.proofs.RunLaws.{took-none, took-more, used-within}
 use Rattle.frames.proofs.take_in.Statement.{statement}
 use Rattle.frames.proofs.take_in.Tie as tie
@@ -19,12 +19,12 @@ abbrev μ-loop : tie.MeasureT-loop
 loop-holds : tie.Need-loop-holds Inv-loop μ-loop
 loop-holds c =
     let s = c .before .before .before .before in
-    (omega arith, s .pre .0, s .pre .1, s .pre .3, s .pre .2, took-none (s .args .image .now) (take (s .args .held) (s .args .line .now)) _)
+    (omega arith, s .pre .0 .image, s .pre .0 .longest, s .pre .0 .text, s .pre .0 .few, took-none (s .args .image .now) (take (s .args .held) (s .args .line .now)) _)
 
 step-requires : tie.Need-step-requires Inv-loop μ-loop
 step-requires c κs =
     let l = c .before .before .before .before .loop .inv in
-    ((l .1, l .2, l .4, l .3), (c .before .before .before .before .before .before .before .before .before .pre .4, l .0))
+    (record { image = l .1; longest = l .2; few = l .4; text = l .3 }, (c .before .before .before .before .before .before .before .before .before .pre .1, l .0))
 
 print-requires : tie.Need-print-requires Inv-loop μ-loop
 print-requires c κs = c .before .before .before .before .before .before .before .step .ensures .room
@@ -34,7 +34,7 @@ add-at c =
     let p = c .before .before .before .before .before .before .before .before .before in
     let q = p .before .before .before .before .before in
     let a = q .before .before .before .before .before in
-    let u = used-within (a .args .buffer .now) (q .loop .at) (a .args .n) (a .pre .4) (omega arith) (p .step .ensures) in
+    let u = used-within (a .args .buffer .now) (q .loop .at) (a .args .n) (a .pre .1) (omega arith) (p .step .ensures) in
     omega (arith, u .0)
 
 loop-less : tie.Need-loop-less Inv-loop μ-loop
@@ -42,7 +42,7 @@ loop-less c =
     let p = c .before .before .before .before .before .before .before .before .before in
     let q = p .before .before .before .before .before in
     let a = q .before .before .before .before .before in
-    let u = used-within (a .args .buffer .now) (q .loop .at) (a .args .n) (a .pre .4) (omega arith) (p .step .ensures) in
+    let u = used-within (a .args .buffer .now) (q .loop .at) (a .args .n) (a .pre .1) (omega arith) (p .step .ensures) in
     omega (arith, u .0, u .1)
 
 loop-again : tie.Need-loop-again Inv-loop μ-loop
@@ -50,20 +50,20 @@ loop-again c =
     let p = c .before .before .before .before .before .before .before .before .before in
     let q = p .before .before .before .before .before in
     let a = q .before .before .before .before .before in
-    let u = used-within (a .args .buffer .now) (q .loop .at) (a .args .n) (a .pre .4) (omega arith) (p .step .ensures) in
+    let u = used-within (a .args .buffer .now) (q .loop .at) (a .args .n) (a .pre .1) (omega arith) (p .step .ensures) in
     let l = q .loop .inv in
     let k = p .step .kept in
     let e = p .step .ensures in
     (u .0, k .0 ∙ l .1, k .1 .1 .1 .1 .0 ∙ l .2, k .1 .1 .1 .1 .1 .1 .0 ∙ l .3, e .few, took-more (l .5) e)
 
 same-length : tie.Need-same-length Inv-loop μ-loop
-same-length c = c .before .loop .inv .1 ∙ sym (c .before .before .before .before .before .before .pre .0)
+same-length c = c .before .loop .inv .1 ∙ sym (c .before .before .before .before .before .before .pre .0 .image)
 
 same-length-2 : tie.Need-same-length-2 Inv-loop μ-loop
-same-length-2 c = c .before .loop .inv .2 ∙ sym (c .before .before .before .before .before .before .pre .1)
+same-length-2 c = c .before .loop .inv .2 ∙ sym (c .before .before .before .before .before .before .pre .0 .longest)
 
 same-length-3 : tie.Need-same-length-3 Inv-loop μ-loop
-same-length-3 c = c .before .loop .inv .3 ∙ sym (c .before .before .before .before .before .before .pre .3)
+same-length-3 c = c .before .loop .inv .3 ∙ sym (c .before .before .before .before .before .before .pre .0 .text)
 
 returns : tie.Need-returns Inv-loop μ-loop
 returns c =

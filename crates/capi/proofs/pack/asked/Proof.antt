@@ -9,12 +9,6 @@ use borrow.Author.Needs.{needs}
 use Rattle.capi.proofs.pack.asked.Statement.{statement}
 use Rattle.capi.proofs.pack.asked.Tie as tie
 
-enum-known-given : tie.Need-enum-known-given
-enum-known-given c = search needs
-
-cast-t6 : tie.Need-cast-t6
-cast-t6 c = search needs
-
 place-word-requires : tie.Need-place-word-requires
 place-word-requires c κs = omega (arith, within-accepted (rw (c .before .before .given .given .1) at (c .before .before .before .before .pre)))
 
@@ -22,12 +16,6 @@ add-t8 : tie.Need-add-t8
 add-t8 c =
     let g = c .before .before .before in
     rw (c .place-word .ensures) (omega (arith, within-accepted (rw (g .given .given .1) at (g .before .before .pre))))
-
-enum-known-given-2 : tie.Need-enum-known-given-2
-enum-known-given-2 c = search needs
-
-refused-requires : tie.Need-refused-requires
-refused-requires c κs = search needs
 
 returns : tie.Need-returns
 returns c = rw (c .before .before .before .given .given .1, c .place-word .ensures)
@@ -39,11 +27,11 @@ pub asked-spec : {M : Type 1} → statement M
 asked-spec =
     tie.close
     (tie.spec
-    enum-known-given
-    cast-t6
+    (λ c. search needs)
+    (λ c. search needs)
     place-word-requires
     add-t8
-    enum-known-given-2
-    refused-requires
+    (λ c. search needs)
+    (λ c κs. search needs)
     returns
     returns-2)

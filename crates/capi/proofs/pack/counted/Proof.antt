@@ -9,23 +9,8 @@ use borrow.Author.Needs.{needs}
 use Rattle.capi.proofs.pack.counted.Statement.{statement}
 use Rattle.capi.proofs.pack.counted.Tie as tie
 
-enum-known-given : tie.Need-enum-known-given
-enum-known-given c = search needs
-
-cast-t6 : tie.Need-cast-t6
-cast-t6 c = search needs
-
-mul-t7 : tie.Need-mul-t7
-mul-t7 c = search needs
-
 add-t8 : tie.Need-add-t8
 add-t8 c = omega (arith, within-accepted (rw (c .before .before .given .given .1) at (c .before .before .before .before .pre)))
-
-enum-known-given-2 : tie.Need-enum-known-given-2
-enum-known-given-2 c = search needs
-
-refused-requires : tie.Need-refused-requires
-refused-requires c κs = search needs
 
 returns : tie.Need-returns
 returns c = rw (c .before .before .given .given .1)
@@ -37,11 +22,11 @@ pub counted-spec : {M : Type 1} → statement M
 counted-spec =
     tie.close
     (tie.spec
-    enum-known-given
-    cast-t6
-    mul-t7
+    (λ c. search needs)
+    (λ c. search needs)
+    (λ c. search needs)
     add-t8
-    enum-known-given-2
-    refused-requires
+    (λ c. search needs)
+    (λ c κs. search needs)
     returns
     returns-2)

@@ -7,15 +7,6 @@ use borrow.Author.Needs.{needs}
 use Rattle.capi.proofs.pack.done.Statement.{statement}
 use Rattle.capi.proofs.pack.done.Tie as tie
 
-enum-told : tie.Need-enum-told
-enum-told c = search needs
-
-enum-known-given : tie.Need-enum-known-given
-enum-known-given c = search needs
-
-refused-requires : tie.Need-refused-requires
-refused-requires c κs = search needs
-
 returns : tie.Need-returns
 returns c = rw (c .enum-told .given .1)
 
@@ -23,4 +14,4 @@ returns-2 : tie.Need-returns-2
 returns-2 c = c .refused .ensures ∙ rw (c .before .before .given .given .1) (said-refusal itself nothing (c .before .before .given .given .0 .0))
 
 pub done-spec : {M : Type 1} → statement M
-done-spec = tie.close (tie.spec enum-told enum-known-given refused-requires returns returns-2)
+done-spec = tie.close (tie.spec (λ c. search needs) (λ c. search needs) (λ c κs. search needs) returns returns-2)

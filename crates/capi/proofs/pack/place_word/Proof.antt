@@ -4,20 +4,11 @@ use borrow.Author.Needs.{needs}
 use Rattle.capi.proofs.pack.place_word.Statement.{statement}
 use Rattle.capi.proofs.pack.place_word.Tie as tie
 
-enum-told : tie.Need-enum-told
-enum-told c = search needs
-
-enum-known-place : tie.Need-enum-known-place
-enum-known-place c = search needs
-
 mul-result : tie.Need-mul-result
 mul-result c = omega (arith, rw (c .before .place .given .1) at (c .before .before .before .pre))
 
 add-result : tie.Need-add-result
 add-result c = omega (arith, rw (c .before .place .given .1) at (c .before .before .before .pre))
-
-enum-known-place-2 : tie.Need-enum-known-place-2
-enum-known-place-2 c = search needs
 
 mul-result-2 : tie.Need-mul-result-2
 mul-result-2 c = omega (arith, rw (c .before .place2 .given .1) at (c .before .before .before .pre))
@@ -25,17 +16,11 @@ mul-result-2 c = omega (arith, rw (c .before .place2 .given .1) at (c .before .b
 add-result-2 : tie.Need-add-result-2
 add-result-2 c = omega (arith, rw (c .before .place2 .given .1) at (c .before .before .before .pre))
 
-enum-known-place-3 : tie.Need-enum-known-place-3
-enum-known-place-3 c = search needs
-
 mul-result-3 : tie.Need-mul-result-3
 mul-result-3 c = omega (arith, rw (c .before .place3 .given .1) at (c .before .before .before .pre))
 
 add-result-3 : tie.Need-add-result-3
 add-result-3 c = omega (arith, rw (c .before .place3 .given .1) at (c .before .before .before .pre))
-
-returns : tie.Need-returns
-returns c = search needs
 
 returns-2 : tie.Need-returns-2
 returns-2 c = rw (c .before .place .given .1)
@@ -50,17 +35,17 @@ pub place-word-spec : {M : Type 1} → statement M
 place-word-spec =
     tie.close
     (tie.spec
-    enum-told
-    enum-known-place
+    (λ c. search needs)
+    (λ c. search needs)
     mul-result
     add-result
-    enum-known-place-2
+    (λ c. search needs)
     mul-result-2
     add-result-2
-    enum-known-place-3
+    (λ c. search needs)
     mul-result-3
     add-result-3
-    returns
+    (λ c. search needs)
     returns-2
     returns-3
     returns-4)

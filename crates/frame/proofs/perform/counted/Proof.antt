@@ -7,15 +7,6 @@ use borrow.Author.Needs.{needs}
 use Rattle.frame.proofs.perform.counted.Statement.{statement}
 use Rattle.frame.proofs.perform.counted.Tie as tie
 
-enum-known-given : tie.Need-enum-known-given
-enum-known-given c = search needs
-
-enum-known-given-2 : tie.Need-enum-known-given-2
-enum-known-given-2 c = search needs
-
-refused-requires : tie.Need-refused-requires
-refused-requires c κs = search needs
-
 returns : tie.Need-returns
 returns c = rw (c .before .given .given .1)
 
@@ -24,4 +15,4 @@ returns-2 c = c .refused .ensures ∙ rw (c .before .before .given2 .given .1) (
 
 pub counted-spec : {M : Type 1} → statement M
 counted-spec =
-    tie.close (tie.spec enum-known-given enum-known-given-2 refused-requires returns returns-2)
+    tie.close (tie.spec (λ c. search needs) (λ c. search needs) (λ c κs. search needs) returns returns-2)

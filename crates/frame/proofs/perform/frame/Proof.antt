@@ -14,18 +14,6 @@ returns-2 c =
     let a = c .before .before .before .before .before .args in
     answers-unfit (a .line .now) (a .image .now) (a .out .now) (unfit-output (a .image .now) (a .out .now) (c .before .if1 .left) (c .if2 .taken))
 
-parse-requires : tie.Need-parse-requires
-parse-requires c κs = search needs
-
-perform-requires : tie.Need-perform-requires
-perform-requires c κs = search needs
-
-same-length : tie.Need-same-length
-same-length c = search needs
-
-same-length-2 : tie.Need-same-length-2
-same-length-2 c = search needs
-
 returns-3 : tie.Need-returns-3
 returns-3 c =
     let p = c .before .before .before .before .before .before in
@@ -40,8 +28,8 @@ frame-spec =
     (tie.spec
     returns
     returns-2
-    parse-requires
-    perform-requires
-    same-length
-    same-length-2
+    (λ c κs. search needs)
+    (λ c κs. search needs)
+    (λ c. search needs)
+    (λ c. search needs)
     returns-3)

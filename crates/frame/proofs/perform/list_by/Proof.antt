@@ -38,21 +38,6 @@ few c =
     rw (sym (start c .pre .0))
     (list-room (asked c) _ _ (start c .args .entries .now) _ (listed c) (written c) (c .before .before .before .before .before .page .kept .1 .1 .0))
 
-page-requires : tie.Need-page-requires
-page-requires c κs = search needs
-
-enum-known-n : tie.Need-enum-known-n
-enum-known-n c = search needs
-
-put-line-requires : tie.Need-put-line-requires
-put-line-requires c κs = search needs
-
-sub-put-entries : tie.Need-sub-put-entries
-sub-put-entries c = search needs
-
-part-put-entries-start : tie.Need-part-put-entries-start
-part-put-entries-start c = search needs
-
 part-put-entries-end : tie.Need-part-put-entries-end
 part-put-entries-end c = omega (arith, few (c .before .before .before .before .before .before))
 
@@ -67,33 +52,12 @@ mul-result c = omega (arith, few (c .before .before .before .before .before .bef
 add-result : tie.Need-add-result
 add-result c = omega (arith, few (c .before .before .before .before .before .before .before .before .before .before))
 
-enum-known-why : tie.Need-enum-known-why
-enum-known-why c = search needs
-
-refused-requires : tie.Need-refused-requires
-refused-requires c κs = search needs
-
-put-line-requires-2 : tie.Need-put-line-requires-2
-put-line-requires-2 c κs = search needs
-
-same-length : tie.Need-same-length
-same-length c = search needs
-
-same-length-2 : tie.Need-same-length-2
-same-length-2 c = search needs
-
 returns : tie.Need-returns
 returns c =
     let k = c .before .before .before .before .before .before .before .before .before .before in
     let a = start k .args in
     list-text (asked k) (k .before .n .given .0 .0) (k .before .n .given .0 .1 .0) (a .entries .now) _ (a .out .now) _ _ (listed k) (written k)
     (c .before .before .before .before .before .before .before .before .put-line .ensures .1) (c .before .before .put-entries .ensures)
-
-same-length-3 : tie.Need-same-length-3
-same-length-3 c = search needs
-
-same-length-4 : tie.Need-same-length-4
-same-length-4 c = search needs
 
 returns-2 : tie.Need-returns-2
 returns-2 c =
@@ -112,21 +76,21 @@ pub list-by-spec : {M : Type 1} → statement M
 list-by-spec =
     tie.close
     (tie.spec
-    page-requires
-    enum-known-n
-    put-line-requires
-    sub-put-entries
-    part-put-entries-start
+    (λ c κs. search needs)
+    (λ c. search needs)
+    (λ c κs. search needs)
+    (λ c. search needs)
+    (λ c. search needs)
     part-put-entries-end
     put-entries-requires
     mul-result
     add-result
-    enum-known-why
-    refused-requires
-    put-line-requires-2
-    same-length
-    same-length-2
+    (λ c. search needs)
+    (λ c κs. search needs)
+    (λ c κs. search needs)
+    (λ c. search needs)
+    (λ c. search needs)
     returns
-    same-length-3
-    same-length-4
+    (λ c. search needs)
+    (λ c. search needs)
     returns-2)

@@ -12,15 +12,6 @@ use Rattle.lines.proofs.answer.finish.Tie as tie
 slice-aggregate-answer : tie.Need-slice-aggregate-answer
 slice-aggregate-answer c = let a = c .before .before .before .before .before .before .args in sym (length-take-le (a .held) (a .line .now) (omega arith))
 
-answer-requires : tie.Need-answer-requires
-answer-requires c κs = search needs
-
-same-length : tie.Need-same-length
-same-length c = search needs
-
-same-length-2 : tie.Need-same-length-2
-same-length-2 c = search needs
-
 returns : tie.Need-returns
 returns c =
     let a = c .before .before .before .before .before .before .before .before .before .before .before .before .args in
@@ -36,4 +27,4 @@ returns-2 c =
 pub finish-spec : {M : Type 1} → statement M
 finish-spec =
     tie.close
-    (tie.spec slice-aggregate-answer answer-requires same-length same-length-2 returns returns-2)
+    (tie.spec slice-aggregate-answer (λ c κs. search needs) (λ c. search needs) (λ c. search needs) returns returns-2)

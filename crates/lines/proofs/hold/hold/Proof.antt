@@ -4,7 +4,7 @@ use mathlib.Core.Path.{_≡_, sym, _∙_}
 use Prim.Native.Nat.{_≤_, _-_}
 use mathlib.Core.List.{[]}
 use lib.ListN.{length, take, getD}
-use Rattle.lines.specs.Turns.{Reads}
+use Rattle.lines.specs.Steps.Turns.{Reads}
 use Rattle.lines.proofs.LineLaws.{reads-none, reads-more}
 use Rattle.lines.proofs.hold.hold.Statement.{statement}
 use Rattle.lines.proofs.hold.hold.Tie as tie
@@ -21,9 +21,6 @@ loop-holds c =
     let s = c .before .before in
     (omega arith, s .pre .0, s .pre .1, reads-none (take (s .args .held) (s .args .line .now)))
 
-shared-slice-read-if1 : tie.Need-shared-slice-read-if1 Inv-loop μ-loop
-shared-slice-read-if1 c = omega arith
-
 same-length : tie.Need-same-length Inv-loop μ-loop
 same-length c = c .before .before .before .loop .inv .1 ∙ sym (c .before .before .before .before .before .before .pre .0)
 
@@ -32,17 +29,8 @@ returns c =
     let l = c .before .before .before .loop in
     record { few = l .inv .2; within = l .inv .0; newline = λ h. omega arith; reads = l .inv .3 }
 
-shared-slice-read-keep : tie.Need-shared-slice-read-keep Inv-loop μ-loop
-shared-slice-read-keep c = omega arith
-
 keep-requires : tie.Need-keep-requires Inv-loop μ-loop
 keep-requires c κs = let l = c .before .before .before .before .before .loop in (l .inv .1, l .inv .2)
-
-add-i : tie.Need-add-i Inv-loop μ-loop
-add-i c = omega arith
-
-loop-less : tie.Need-loop-less Inv-loop μ-loop
-loop-less c = omega arith
 
 loop-again : tie.Need-loop-again Inv-loop μ-loop
 loop-again c =
@@ -71,13 +59,13 @@ hold-spec =
     Inv-loop
     μ-loop
     loop-holds
-    shared-slice-read-if1
+    (λ c. omega arith)
     same-length
     returns
-    shared-slice-read-keep
+    (λ c. omega arith)
     keep-requires
-    add-i
-    loop-less
+    (λ c. omega arith)
+    (λ c. omega arith)
     loop-again
     same-length-2
     returns-2)

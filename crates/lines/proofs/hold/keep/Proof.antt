@@ -11,15 +11,6 @@ returns c =
     let a = c .before .args in
     (omega arith, kept-full (a .line .now) (a .held) (a .byte) (c .before .pre .0) (omega arith))
 
-slice-write-line : tie.Need-slice-write-line
-slice-write-line c = search needs
-
-add-result : tie.Need-add-result
-add-result c = search needs
-
-same-length : tie.Need-same-length
-same-length c = search needs
-
 returns-2 : tie.Need-returns-2
 returns-2 c =
     let a = c .before .args in
@@ -27,4 +18,4 @@ returns-2 c =
     (omega arith, kept-more (a .line .now) (a .held) (a .byte) (c .before .pre .0) l)
 
 pub keep-spec : {M : Type 1} → statement M
-keep-spec = tie.close (tie.spec returns slice-write-line add-result same-length returns-2)
+keep-spec = tie.close (tie.spec returns (λ c. search needs) (λ c. search needs) (λ c. search needs) returns-2)

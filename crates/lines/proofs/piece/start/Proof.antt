@@ -4,16 +4,10 @@ use borrow.Author.Needs.{needs}
 use Rattle.lines.proofs.piece.start.Statement.{statement}
 use Rattle.lines.proofs.piece.start.Tie as tie
 
-fresh-requires : tie.Need-fresh-requires
-fresh-requires c κs = search needs
-
-same-length : tie.Need-same-length
-same-length c = search needs
-
 returns : tie.Need-returns
 returns c =
     let s = c .before .before .before .before .before in
     started (s .args .image .now) _ (s .pre) (c .before .before .fresh .ensures .bytes)
 
 pub start-spec : {M : Type 1} → statement M
-start-spec = tie.close (tie.spec fresh-requires same-length returns)
+start-spec = tie.close (tie.spec (λ c κs. search needs) (λ c. search needs) returns)

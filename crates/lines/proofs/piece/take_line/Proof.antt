@@ -7,40 +7,16 @@ use borrow.Author.Needs.{needs}
 use Rattle.lines.proofs.piece.take_line.Statement.{statement}
 use Rattle.lines.proofs.piece.take_line.Tie as tie
 
-hold-requires : tie.Need-hold-requires
-hold-requires c κs = search needs
-
-same-length : tie.Need-same-length
-same-length c = search needs
-
 returns : tie.Need-returns
 returns c =
     let h = c .before .before .before .hold in
     let a = c .before .before .before .before .before .before .before .before .before .args in
     steps-all (a .image .now) _ (a .bytes .now) _ (a .out .now) (h .result) (c .if1 .taken) (h .ensures)
 
-slice-reshare-prefix-answer : tie.Need-slice-reshare-prefix-answer
-slice-reshare-prefix-answer c = search needs
-
 slice-aggregate-answer : tie.Need-slice-aggregate-answer
 slice-aggregate-answer c =
     let h = c .before .before .before .before .before .hold in
     sym (length-take-le (h .result .held) (h .last .1 .0) (omega (arith, h .ensures .few, h .kept)))
-
-answer-requires : tie.Need-answer-requires
-answer-requires c κs = search needs
-
-add-t12 : tie.Need-add-t12
-add-t12 c = search needs
-
-same-length-2 : tie.Need-same-length-2
-same-length-2 c = search needs
-
-same-length-3 : tie.Need-same-length-3
-same-length-3 c = search needs
-
-same-length-4 : tie.Need-same-length-4
-same-length-4 c = search needs
 
 returns-2 : tie.Need-returns-2
 returns-2 c =
@@ -53,14 +29,14 @@ pub take-line-spec : {M : Type 1} → statement M
 take-line-spec =
     tie.close
     (tie.spec
-    hold-requires
-    same-length
+    (λ c κs. search needs)
+    (λ c. search needs)
     returns
-    slice-reshare-prefix-answer
+    (λ c. search needs)
     slice-aggregate-answer
-    answer-requires
-    add-t12
-    same-length-2
-    same-length-3
-    same-length-4
+    (λ c κs. search needs)
+    (λ c. search needs)
+    (λ c. search needs)
+    (λ c. search needs)
+    (λ c. search needs)
     returns-2)

@@ -10,9 +10,6 @@ returns : tie.Need-returns
 unfolding digitOf
 returns c = let b = c .before .args .byte in rw (lt-leb 48 b (omega arith), lt-leb 65 b (omega arith))
 
-cast-t4 : tie.Need-cast-t4
-cast-t4 c = search needs
-
 returns-2 : tie.Need-returns-2
 unfolding digitOf
 returns-2 c = let b = c .before .before .args .byte in rw (le-leb 48 b (omega arith), le-leb b 57 (omega arith))
@@ -20,12 +17,6 @@ returns-2 c = let b = c .before .before .args .byte in rw (le-leb 48 b (omega ar
 returns-3 : tie.Need-returns-3
 unfolding digitOf
 returns-3 c = let b = c .before .before .before .args .byte in rw (le-leb 48 b (omega arith), lt-leb b 57 (omega arith), lt-leb 65 b (omega arith))
-
-sub-t5 : tie.Need-sub-t5
-sub-t5 c = search needs
-
-cast-t6 : tie.Need-cast-t6
-cast-t6 c = search needs
 
 returns-4 : tie.Need-returns-4
 unfolding digitOf
@@ -41,4 +32,4 @@ returns-5 c =
 
 pub digit-of-spec : {M : Type 1} → statement M
 digit-of-spec =
-    tie.close (tie.spec returns cast-t4 returns-2 returns-3 sub-t5 cast-t6 returns-4 returns-5)
+    tie.close (tie.spec returns (λ c. search needs) returns-2 returns-3 (λ c. search needs) (λ c. search needs) returns-4 returns-5)

@@ -20,27 +20,6 @@ loop-holds : tie.Need-loop-holds Inv-loop μ-loop
 unfolding entryLines
 loop-holds c = (omega arith, refl, over-none 21 (c .before .before .args .out .now))
 
-mul-put-entry : tie.Need-mul-put-entry Inv-loop μ-loop
-mul-put-entry c = omega arith
-
-add-put-entry : tie.Need-add-put-entry Inv-loop μ-loop
-add-put-entry c = omega arith
-
-mul-put-entry-2 : tie.Need-mul-put-entry-2 Inv-loop μ-loop
-mul-put-entry-2 c = omega arith
-
-shared-slice-read-put-entry : tie.Need-shared-slice-read-put-entry Inv-loop μ-loop
-shared-slice-read-put-entry c = omega arith
-
-put-entry-requires : tie.Need-put-entry-requires Inv-loop μ-loop
-put-entry-requires c κs = omega arith
-
-add-i : tie.Need-add-i Inv-loop μ-loop
-add-i c = omega arith
-
-loop-less : tie.Need-loop-less Inv-loop μ-loop
-loop-less c = omega arith
-
 loop-again : tie.Need-loop-again Inv-loop μ-loop
 loop-again c =
     let l = c .before .before .before .before .before .before .loop in
@@ -67,13 +46,13 @@ put-entries-spec =
     Inv-loop
     μ-loop
     loop-holds
-    mul-put-entry
-    add-put-entry
-    mul-put-entry-2
-    shared-slice-read-put-entry
-    put-entry-requires
-    add-i
-    loop-less
+    (λ c. omega arith)
+    (λ c. omega arith)
+    (λ c. omega arith)
+    (λ c. omega arith)
+    (λ c κs. omega arith)
+    (λ c. omega arith)
+    (λ c. omega arith)
     loop-again
     same-length
     returns)

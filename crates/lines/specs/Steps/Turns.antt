@@ -24,7 +24,14 @@ pub record Turn (img held bytes text img′ held′ : List ℕ) : Type 0 where
   pub printed : text ≡ textOfFrames frames img
   pub performed : img′ ≡ imageOfFrames frames img
 
--- ---- what the functions give
+-- ---- what the functions ask and give
+
+-- an image with B = 3, a line of which so many bytes are held, and an output with room for the longest text
+pub record Room (img line : List ℕ) (held : ℕ) (out : List ℕ) : Type 0 where
+  pub image : length img ≡ 2176
+  pub longest : length line ≡ 19
+  pub few : held ≤ 19
+  pub text : length out ≡ 29397
 
 -- bytes up to a newline, or all of them, are held
 pub record Holds (held bytes : List ℕ) (h : Held) (line : List ℕ) : Type 0 where

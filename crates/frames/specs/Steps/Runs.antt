@@ -1,7 +1,7 @@
 -- The image by the turns that led to it. What was read and what was printed no contract can say of the C functions: here they are some pieces and some text.
 use Prim.Native.Nat.{ℕ}
 use mathlib.Core.List.{List}
-use Rattle.lines.specs.Turns.{Taken, Run, Ends}
+use Rattle.lines.specs.Steps.Turns.{Taken, Run, Ends}
 
 -- steps have taken in `at` bytes of a piece
 pub record Took (img held piece : List ℕ) (at : ℕ) (img′ held′ : List ℕ) : Type 0 where

@@ -1,0 +1,2 @@
+-- Inner steps: the texts that a run prints.
+pub mod Runs

@@ -1,0 +1,2 @@
+-- Inner steps: the turns of the loop that reads.
+pub mod Turns
