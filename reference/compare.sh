@@ -8,7 +8,7 @@ after=$(realpath "$2")
 shift 2
 cd "$(dirname "$0")"
 
-# A copy of an archive in which every function starts on a cache line: where a linker happens to put a loop is worth 8 %, and no call's doing.
+# A copy of an archive in which every function starts on a cache line: where the linker puts a function moved insert by up to 8 %.
 aligned() {
   local sections section args=()
   sections=$(objdump -h "$1" | grep -oE '\.text\.[^ ]+' | sort -u)
