@@ -8,20 +8,12 @@ after=$(realpath "$2")
 shift 2
 cd "$(dirname "$0")"
 
-# A copy of an archive in which every function starts on a cache line: where the linker puts a function moved insert by up to 8 %.
-aligned() {
-  local sections section args=()
-  sections=$(objdump -h "$1" | grep -oE '\.text\.[^ ]+' | sort -u)
-  for section in $sections; do args+=(--set-section-alignment "$section=64"); done
-  objcopy "${args[@]}" "$1" "$2"
-}
-
-# The `bench` of an archive, in a target folder of its own.
+# The `bench` of an archive, in a target folder of its own. Every function starts on a cache line, as in the archive that ships.
 bench_of() {
   case $2 in
   *.a)
     mkdir -p "target/$1/lib"
-    aligned "$2" "target/$1/lib/libcapi.a"
+    ../bindings/archive.sh "$2" "target/$1/lib/libcapi.a"
     CAPI_LIB_DIR=$PWD/target/$1/lib cargo build --offline --release --quiet -p bench --features bench/capi --target-dir "target/$1"
     echo "target/$1/release/bench"
     ;;

@@ -50,7 +50,7 @@ pub fn count(image: &[u8], hash: u64) -> CountResult
 pub fn page(image: &[u8], start: usize, out: &mut [u64]) -> PageResult
     ensures { λ r. ⌜ Pages layout1 (now (image .entry)) start (now (out .entry)) r (now (out .exit)) ⌝ }
 {
-    listing::page::page(image, start, out)
+    paging::page::page(image, start, out)
 }
 
 // Whether the bytes are a catalogue.

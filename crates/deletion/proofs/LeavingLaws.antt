@@ -17,7 +17,7 @@ use Rattle.crumbmap.specs.Steps.Places.{Leads}
 use Rattle.crumbmap.specs.declared.Overflow.{Overflow}
 use Rattle.crumbmap.proofs.CrumbMapLaws.{crumbOf-lt}
 use Rattle.buckets.specs.Buckets.{carrying}
-use Rattle.minifilter.specs.Steps.Readings.{firstOf}
+use Rattle.search.specs.Steps.Searches.{firstOf}
 use Rattle.machine.specs.Images.{inBack}
 use Rattle.machine.specs.Bags.{addedAll, has}
 use Rattle.machine.specs.Machine.{bagIn, overflowIn}

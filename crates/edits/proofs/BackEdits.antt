@@ -12,7 +12,8 @@ use Rattle.multiset.specs.Digits.{grouped, padded, highs, lows}
 use Rattle.crumbmap.specs.Layouts.{Layout, layout1, tags, keys, wordBytes}
 use Rattle.buckets.specs.Buckets.{Fits64, slotEnd, slotBytes, crumbRoom, crumbBytes, backBytes, wordIn, backList, BackList}
 use Rattle.minifilter.specs.Steps.Readings.{SoundBack}
-use Rattle.edits.specs.Steps.Edits.{inserted, slotInserted, slotRemoved, crumbInserted, crumbRemoved}
+use Rattle.shifts.specs.Steps.Shifts.{inserted, crumbInserted, crumbRemoved}
+use Rattle.edits.specs.Steps.Edits.{slotInserted, slotRemoved}
 use Rattle.multiset.proofs.MultisetLaws.{below-copies, length-added, length-removed}
 use Rattle.multiset.proofs.RankLaws.{below-suc, below-le-length}
 use Rattle.multiset.proofs.SlotLaws.{added-at, removed-at, holds-from, holds-past, holds-copy}
@@ -22,7 +23,7 @@ use Rattle.buckets.proofs.PieceLaws.{grouped-take}
 use Rattle.buckets.proofs.KeyBytes.{Keys, back-keys, back-slots}
 use Rattle.buckets.proofs.BucketLaws.{length-backSlots, spread-crumbBytes}
 use Rattle.minifilter.proofs.HeldLaws.{back-list, back-bytes}
-use Rattle.edits.proofs.ShiftLaws.{map-inserted, map-removed, padded-inserted, padded-removed}
+use Rattle.shifts.proofs.ShiftLaws.{map-inserted, map-removed, padded-inserted, padded-removed}
 use Rattle.edits.proofs.SlotEdits.{slots-inserted, slots-removed, slots-word-lt, slot-from, slot-past, key-mini}
 
 -- ---- crumbs

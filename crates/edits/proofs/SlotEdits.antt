@@ -12,7 +12,8 @@ use Rattle.multiset.specs.Digits.{digits, spread, padded, highs, lows}
 use Rattle.crumbmap.specs.Layouts.{Layout, tags, wordBytes, keys}
 use Rattle.buckets.specs.Words.{wordFrom, openedAt, closedAt}
 use Rattle.buckets.specs.Buckets.{tagPart, slotBytes, slotEnd, wordIn}
-use Rattle.edits.specs.Steps.Edits.{inserted, takenOut, tagArea, slotInserted, slotRemoved}
+use Rattle.shifts.specs.Steps.Shifts.{inserted, takenOut}
+use Rattle.edits.specs.Steps.Edits.{tagArea, slotInserted, slotRemoved}
 use Rattle.multiset.proofs.RankLaws.{below-le-length}
 use Rattle.multiset.proofs.DigitLaws.{length-digits, length-highs, length-lows}
 use Rattle.buckets.proofs.BitLaws.{word-opened, word-closed}
@@ -21,7 +22,7 @@ use Rattle.buckets.proofs.KeyBytes.{Keys, keys-run, keys-word}
 use Rattle.buckets.proofs.PieceLaws.{spread-take}
 use Rattle.buckets.proofs.WordLaws.{Run, word-lt}
 use Rattle.buckets.proofs.HighLaws.{highs-from, highs-past}
-use Rattle.edits.proofs.ShiftLaws.{map-inserted, map-removed, padded-inserted, padded-removed, spread-inserted, spread-takenOut}
+use Rattle.shifts.proofs.ShiftLaws.{map-inserted, map-removed, padded-inserted, padded-removed, spread-inserted, spread-takenOut}
 
 -- bytes that begin with word and tags of keys
 module _ (L : Layout) (slots : ℕ) where

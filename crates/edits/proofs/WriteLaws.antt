@@ -20,7 +20,7 @@ use Rattle.buckets.proofs.HighLaws.{getD-highs, padded-low}
 use Rattle.buckets.proofs.PieceLaws.{spread-append}
 use Rattle.buckets.proofs.SlotBytes.{length-slotBytes}
 use Rattle.buckets.proofs.KeyBytes.{keys-run, front-keys, frontRest, front-slots}
-use Rattle.edits.proofs.TagLaws.{stored-take, tag-digits}
+use Rattle.shifts.proofs.TagLaws.{stored-take, tag-digits}
 
 -- ---- the word
 

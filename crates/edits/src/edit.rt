@@ -2,118 +2,21 @@
 
 use crumbmap::layout::TAGS;
 use minifilter::slots;
+use shifts::crumbs::insert_crumb;
+use shifts::crumbs::remove_crumb;
+use shifts::tags::insert_tag;
+use shifts::tags::remove_tag;
 use words::word;
 ghost use mathlib.Core.Path.{_≡_};
-ghost use Prim.Native.Nat.{_+_, _*_, _/_, _%_, _<_, _≤_};
+ghost use Prim.Native.Nat.{_<_};
 ghost use mathlib.Core.List.{[]};
-ghost use lib.ListN.{length, take, getD, replicate};
+ghost use lib.ListN.{length, getD, replicate};
 ghost use Rattle.multiset.specs.Multisets.{added, removed};
-ghost use Rattle.multiset.specs.Digits.{digits};
-ghost use Rattle.crumbmap.specs.Layouts.{layout1, tags};
+ghost use Rattle.crumbmap.specs.Layouts.{layout1};
 ghost use Rattle.buckets.specs.Buckets.{frontBytes, backBytes, frontList, backList};
 ghost use Rattle.words.specs.Steps.Wide.{wordBytes1};
 ghost use Rattle.minifilter.specs.Steps.Readings.{SoundFront, SoundBack};
-ghost use Rattle.edits.specs.Steps.Edits.{inserted, takenOut, slotInserted, slotRemoved, crumbInserted, crumbRemoved, halfPushed, halfPopped, FrontInsert, BackInsert, FrontSwap, TagRoom1, InsertRoom1};
-
-// A tag is put in at a slot of the tags' bytes, and the last one falls off.
-fn insert_tag(s: &mut [u8], slot: usize, tag: u32)
-    requires { ⌜ (length (now s) % 2 ≡ 0) × (slot * 2 + 2 ≤ length (now s)) × (tag < tags layout1) ⌝ }
-    ensures { λ _. ⌜ now (s .exit) ≡ take (length (now (s .entry))) (inserted (slot * 2) (digits 256 2 tag) (now (s .entry))) ⌝ }
-{
-    let from = slot * 2;
-    let mut i = s.len() - 2;
-    while from < i {
-        let low = s[i - 2];
-        let high = s[i - 1];
-        s[i] = low;
-        s[i + 1] = high;
-        i -= 2;
-    }
-    s[i] = (tag % 256) as u8;
-    s[i + 1] = (tag / 256) as u8;
-}
-
-// The tag at a slot is taken out, and a zero follows the others.
-fn remove_tag(s: &mut [u8], slot: usize)
-    requires { ⌜ (length (now s) % 2 ≡ 0) × (slot * 2 + 2 ≤ length (now s)) ⌝ }
-    ensures { λ _. ⌜ now (s .exit) ≡ takenOut (slot * 2) 2 (now (s .entry)) ⌝ }
-{
-    let last = s.len() - 2;
-    let mut i = slot * 2;
-    while i < last {
-        let low = s[i + 2];
-        let high = s[i + 3];
-        s[i] = low;
-        s[i + 1] = high;
-        i += 2;
-    }
-    s[i] = 0;
-    s[i + 1] = 0;
-}
-
-// A half is put in below byte `from`, and the highest falls off.
-fn push_half(s: &mut [u8], from: usize, half: u8)
-    requires { ⌜ (from ≤ length (now s)) × (half < 16) ⌝ }
-    ensures { λ _. ⌜ now (s .exit) ≡ halfPushed from half (now (s .entry)) ⌝ }
-{
-    let mut carry = half;
-    let mut i = from;
-    while i < s.len() {
-        let byte = s[i];
-        s[i] = carry + byte % 16 * 16;
-        carry = byte / 16;
-        i += 1;
-    }
-}
-
-// The lower half of byte `from` is taken out, and a zero follows the others.
-fn pop_half(s: &mut [u8], from: usize)
-    requires { ⌜ from < length (now s) ⌝ }
-    ensures { λ _. ⌜ now (s .exit) ≡ halfPopped from (now (s .entry)) ⌝ }
-{
-    let last = s.len() - 1;
-    let mut i = from;
-    while i < last {
-        let byte = s[i];
-        let next = s[i + 1];
-        s[i] = byte / 16 + next % 16 * 16;
-        i += 1;
-    }
-    let byte = s[i];
-    s[i] = byte / 16;
-}
-
-// A crumb is put in at a slot of the crumbs' bytes: "even slots in the low half".
-fn insert_crumb(s: &mut [u8], slot: usize, crumb: u32)
-    requires { ⌜ (slot / 2 < length (now s)) × (crumb < 16) ⌝ }
-    ensures { λ _. ⌜ now (s .exit) ≡ crumbInserted slot crumb (now (s .entry)) ⌝ }
-{
-    let at = slot / 2;
-    let half = crumb as u8;
-    if slot % 2 == 0 {
-        push_half(s, at, half);
-        return;
-    }
-    let byte = s[at];
-    s[at] = byte % 16 + half * 16;
-    push_half(s, at + 1, byte / 16);
-}
-
-// The crumb at a slot is taken out.
-fn remove_crumb(s: &mut [u8], slot: usize)
-    requires { ⌜ slot / 2 + 1 < length (now s) ⌝ }
-    ensures { λ _. ⌜ now (s .exit) ≡ crumbRemoved slot (now (s .entry)) ⌝ }
-{
-    let at = slot / 2;
-    if slot % 2 == 0 {
-        pop_half(s, at);
-        return;
-    }
-    let byte = s[at];
-    let next = s[at + 1];
-    s[at] = byte % 16 + next % 16 * 16;
-    pop_half(s, at + 1);
-}
+ghost use Rattle.edits.specs.Steps.Edits.{slotInserted, slotRemoved, FrontInsert, BackInsert, FrontSwap, TagRoom1, InsertRoom1};
 
 // Word and tags of a bucket whose tags end at byte `end`: a key is put in at a slot.
 fn insert_slot(b: &mut [u8], end: usize, slot: usize, key: u32)

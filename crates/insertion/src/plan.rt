@@ -16,7 +16,7 @@ use image::back::read_backyard;
 use image::front::read_front_at;
 use image::place::bucket;
 use minifilter::Reading;
-use minifilter::find::largest_front;
+use search::find::largest_front;
 ghost use mathlib.Core.Path.{_≡_};
 ghost use Prim.Native.Nat.{_<_};
 ghost use Rattle.multiset.specs.Multisets.{added, largest};

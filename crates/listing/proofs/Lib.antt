@@ -1,4 +1,3 @@
--- Laws of merged lists, of a front bucket's members and of a page.
+-- Laws of merged lists, and of a front bucket's members.
 pub mod MergedLists
 pub mod ListingLaws
-pub mod PageSteps

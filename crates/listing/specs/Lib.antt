@@ -1,2 +1,2 @@
--- The steps of page and of listing a front bucket.
+-- The steps of listing a front bucket.
 pub mod Steps

@@ -1,2 +1,2 @@
--- Inner steps of page and of listing a front bucket.
+-- Inner steps of listing a front bucket.
 pub mod Listings

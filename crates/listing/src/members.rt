@@ -17,10 +17,10 @@ use image::front::read_front_at;
 use image::place::back_bucket;
 use image::place::bucket;
 use minifilter::Reading;
-use minifilter::find::count_carrying;
-use minifilter::find::count_front;
-use minifilter::find::list_carrying;
-use minifilter::find::list_front;
+use search::find::count_front;
+use search::list::count_carrying;
+use search::list::list_carrying;
+use search::list::list_front;
 ghost use mathlib.Core.Path.{_≡_};
 ghost use Prim.Native.Nat.{_≤_};
 ghost use lib.ListN.{length};
@@ -32,7 +32,7 @@ ghost use Rattle.image.specs.Steps.Listed.{Listed};
 ghost use Rattle.listing.specs.Steps.Listings.{bagAt, membersIn, BagRead, BackyardRead, MembersRead, CountSays};
 
 // How many members a front bucket has.
-pub(crate) fn count_members(image: &[u8], size: usize, front: Front) -> MemberCount
+pub fn count_members(image: &[u8], size: usize, front: Front) -> MemberCount
     requires { ⌜ FrontIn size (front .0) (now image) ⌝ }
     ensures { λ r. ⌜ CountSays layout1 size (front .0) (now (image .entry)) r ⌝ }
 {

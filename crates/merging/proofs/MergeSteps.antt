@@ -34,8 +34,8 @@ use Rattle.listing.specs.Steps.Listings.{membersIn}
 use Rattle.listing.proofs.ListingLaws.{members-at, members-range}
 use Rattle.spill.specs.Steps.Settling.{reached}
 use Rattle.spill.proofs.SpillSteps.{reached-all, reached-full, then-on, then-full}
-use Rattle.merging.specs.Steps.Merging.{Checked, Sources, Merging, joined, bothInserted}
-use Rattle.merging.proofs.CheckedImages.{Known, checked-of, members-known}
+use Rattle.joining.specs.Steps.Joins.{Checked, Sources, Merging, joined, bothInserted}
+use Rattle.joining.proofs.CheckedImages.{Known, checked-of, members-known}
 
 -- ---- from front bucket to front bucket
 

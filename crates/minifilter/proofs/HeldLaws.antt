@@ -15,9 +15,8 @@ use Rattle.crumbmap.specs.Layouts.{Layout, tags, layout1}
 use Rattle.buckets.specs.Words.{wordFrom, minisIn}
 use Rattle.buckets.specs.Buckets.{Fits64, frontBytes, backBytes, crumbsIn, crumbBytes, crumbRoom, FrontList, BackList, frontList, backList}
 use Rattle.words.specs.Steps.Wide.{wordBytes1}
-use Rattle.minifilter.specs.Steps.Readings.{SoundFront, SoundBack}
-use Rattle.minifilter.specs.Steps.Slots.{slotsOf, endOf, bitsOf, wordOf, tagAt, crumbAt, minisOf}
-use Rattle.minifilter.specs.Steps.Searches.{Sound, membersOf, spanOf, lowAt}
+use Rattle.minifilter.specs.Steps.Readings.{SoundFront, SoundBack, Sound, membersOf}
+use Rattle.minifilter.specs.Steps.Slots.{slotsOf, endOf, bitsOf, wordOf, tagAt, crumbAt, minisOf, spanOf, lowAt}
 use Rattle.multiset.proofs.RankLaws.{below-le-length}
 use Rattle.multiset.proofs.DigitLaws.{length-highs}
 use Rattle.buckets.proofs.ElementLaws.{below-at}

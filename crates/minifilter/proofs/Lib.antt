@@ -1,8 +1,6 @@
--- Laws of the reader, of search and of lists.
+-- Laws of the reader, and of what a sound bucket holds.
 pub mod PassLaws
 pub mod SlotOrder
 pub mod ReadLaws
 pub mod CrumbLaws
 pub mod HeldLaws
-pub mod SearchLaws
-pub mod ListLaws

@@ -1,2 +1,2 @@
--- One bucket as the contracts of its reader and its search speak of it.
+-- One bucket as the contracts of its reader speak of it.
 pub mod Steps

@@ -1,6 +1,5 @@
-// One 64-byte bucket: its slots, the reader, and the search in a bucket that was read.
+// One 64-byte bucket: its slots, and the reader.
 
-pub mod find;
 pub mod read;
 pub mod slots;
 
@@ -14,10 +13,4 @@ pub enum Reading {
 pub enum Order {
     Below(usize),
     Broken,
-}
-
-// The lowest key among a backyard bucket's members that carry a crumb, and its lowest slot.
-pub enum Carried {
-    Key(u32, usize),
-    Nothing,
 }

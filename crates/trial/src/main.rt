@@ -1,7 +1,7 @@
 // Reads the stored calls from standard input, has them performed on three images, and prints each answer with the checksum of the bytes that the call was lent.
 
-use replay::perform::Outcome;
-use replay::perform::step;
+use replay::Outcome;
+use script::perform::step;
 use stored::images::Lengths;
 use stored::said::put_said;
 

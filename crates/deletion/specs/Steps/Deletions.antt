@@ -11,9 +11,9 @@ use Rattle.crumbmap.specs.CrumbMap.{firstBucket, secondBucket}
 use Rattle.crumbmap.specs.Steps.Places.{Leads}
 use Rattle.crumbmap.specs.declared.Overflow.{Overflow}
 use Rattle.buckets.specs.Buckets.{carrying}
-use Rattle.minifilter.specs.Steps.Readings.{firstOf}
-use Rattle.minifilter.specs.declared.Carried.{Carried}
-use Rattle.minifilter.specs.declared.Carried.the-variants as K
+use Rattle.search.specs.Steps.Searches.{firstOf}
+use Rattle.search.specs.declared.Carried.{Carried}
+use Rattle.search.specs.declared.Carried.the-variants as K
 use Rattle.machine.specs.Images.{inFront, inBack, putFront, putBack}
 use Rattle.machine.specs.Bags.{fromFirst}
 use Rattle.machine.specs.Machine.{changed, bagIn, overflowIn, deleteAt}

@@ -1,25 +1,16 @@
--- A stretch of bytes or halves that something is put into or taken out of, and a bucket whose slots are edited, at any layout; what an edit asks
--- of a bucket.
+-- A bucket whose slots are edited, at any layout, and what an edit asks of a bucket.
 use mathlib.Core.Path.{_≡_}
 use Prim.Native.Nat.{ℕ, _+_, _*_, _/_, _%_, _-_, _^_, _≤_, _<_}
-use mathlib.Core.List.{List, [], _∷_, _++_}
-use lib.ListN.{length, take, drop, getD, replicate}
+use mathlib.Core.List.{List, _++_}
+use lib.ListN.{length, take, drop, getD}
 use Rattle.multiset.specs.Multisets.{below, removed}
-use Rattle.multiset.specs.Digits.{digits, value, spread, grouped}
+use Rattle.multiset.specs.Digits.{digits, value}
 use Rattle.crumbmap.specs.Layouts.{Layout, layout1, tags, keys}
 use Rattle.buckets.specs.Words.{openedAt, closedAt}
 use Rattle.buckets.specs.Buckets.{frontList, backList}
 use Rattle.words.specs.Steps.Wide.{wordBytes1}
 use Rattle.minifilter.specs.Steps.Readings.{SoundFront, SoundBack}
-
--- ---- lists
-
--- a list with vs put in at a place, and with n of its members taken out there, where zeros follow
-abbrev pub inserted : ℕ → List ℕ → List ℕ → List ℕ
-inserted at vs l = take at l ++ (vs ++ drop at l)
-
-abbrev pub takenOut : ℕ → ℕ → List ℕ → List ℕ
-takenOut at n l = take at l ++ (drop (at + n) l ++ replicate n 0)
+use Rattle.shifts.specs.Steps.Shifts.{inserted, takenOut}
 
 -- ---- word and tags
 
@@ -37,22 +28,6 @@ module _ (L : Layout) (head end : ℕ) where
   unfoldable pub slotRemoved : ℕ → ℕ → List ℕ → List ℕ
   slotRemoved slot mini b =
       digits 256 head (closedAt (mini + slot) (value 256 (take head b))) ++ (takenOut (slot * L .tagBytes) (L .tagBytes) (tagArea head end b) ++ drop end b)
-
--- ---- crumbs
-
--- bytes of two halves each, with a half put in at a slot, the last falling off, and with the one there taken out
-unfoldable pub crumbInserted : ℕ → ℕ → List ℕ → List ℕ
-crumbInserted slot crumb s = grouped 16 2 (length s) (inserted slot (crumb ∷ []) (spread 16 2 s))
-
-unfoldable pub crumbRemoved : ℕ → List ℕ → List ℕ
-crumbRemoved slot s = grouped 16 2 (length s) (takenOut slot 1 (spread 16 2 s))
-
--- the same where the slot is the lower half of byte `from`
-unfoldable pub halfPushed : ℕ → ℕ → List ℕ → List ℕ
-halfPushed from half s = take from s ++ grouped 16 2 (length s - from) (half ∷ spread 16 2 (drop from s))
-
-unfoldable pub halfPopped : ℕ → List ℕ → List ℕ
-halfPopped from s = take from s ++ grouped 16 2 (length s - from) (drop 1 (spread 16 2 (drop from s)) ++ (0 ∷ []))
 
 -- ---- what an edit asks
 

@@ -1,25 +1,21 @@
--- What listing the members of front buckets asks and says: a front bucket with those behind it, and a page's run of them.
+-- What listing the members of a front bucket asks and says: those in front with those behind it, and lists that are merged.
 use mathlib.Core.Path.{_≡_}
-use Prim.Native.Nat.{ℕ, zero, suc, _+_, _-_, _≤_, _<_}
+use Prim.Native.Nat.{ℕ, _+_, _≤_, _<_}
 use mathlib.Core.Bool.{Bool, true, false, cond}
-use mathlib.Core.List.{List, [], _∷_, _++_, map}
+use mathlib.Core.List.{List, [], _∷_, _++_}
 use lib.ListN.{length, drop}
 use lib.Dec.{T, leb, ltb}
 use Rattle.multiset.specs.Multisets.{ascending}
-use Rattle.crumbmap.specs.Layouts.{Layout, fronts}
-use Rattle.crumbmap.specs.Fingerprints.{fingerprint}
+use Rattle.crumbmap.specs.Layouts.{Layout}
 use Rattle.crumbmap.specs.declared.Overflow.{Overflow}
 use Rattle.buckets.specs.Buckets.{carrying}
-use Rattle.machine.specs.Results.{accepted, refused}
+use Rattle.machine.specs.Results.{refused}
 use Rattle.machine.specs.Images.{inFront, inBack}
 use Rattle.machine.specs.Bags.{addedAll}
 use Rattle.machine.specs.Machine.{overflowIn, membersAt}
-use Rattle.machine.specs.Pages.{runFrom}
-use Rattle.image.specs.Steps.ImageReads.{FrontIn, FrontRead, BackRead, BothRead, Whole}
+use Rattle.image.specs.Steps.ImageReads.{FrontIn, FrontRead, BackRead, BothRead}
 use Rattle.listing.specs.declared.MemberCount.{MemberCount}
 use Rattle.listing.specs.declared.MemberCount.the-variants as M
-use Rattle.listing.specs.declared.RunEnd.{RunEnd}
-use Rattle.listing.specs.declared.RunEnd.the-variants as E
 
 module _ (L : Layout) where
   -- those of First(f) and Second(f) that count, "where Front holds 28"; and all members of f
@@ -52,25 +48,6 @@ module _ (L : Layout) where
   abbrev pub CountSays : ℕ → ℕ → List ℕ → MemberCount → Type 0
   CountSays B f img (M.Members n) = MembersRead B f img × (length (membersIn B f img) ≡ n)
   CountSays B f img (M.Unsound i) = membersAt L B f img ≡ refused 3 i
-
-  -- the entries of n buckets from s
-  unfoldable pub entriesIn : ℕ → ℕ → ℕ → List ℕ → List ℕ
-  entriesIn B zero s img = []
-  entriesIn B (suc n) s img = map (fingerprint L s) (membersIn B s img) ++ entriesIn B n (suc s) img
-
-  -- the run from s that fits `room` goes up to `next`, and its buckets were read
-  pub record Ran (B s room : ℕ) (img : List ℕ) (next : ℕ) : Type 0 where
-    pub image : Whole B img
-    pub from : s ≤ next
-    pub upto : next ≤ fronts B
-    pub sound : (f : ℕ) → s ≤ f → f < next → MembersRead B f img
-    pub fits : length (entriesIn B (next - s) s img) ≤ room
-    pub runs : runFrom L B (fronts B - s) s room img ≡ accepted (record { entries = entriesIn B (next - s) s img; next = next })
-
-  -- what measuring it says
-  abbrev pub EndSays : ℕ → ℕ → ℕ → List ℕ → RunEnd → Type 0
-  EndSays B s room img (E.Next next) = Ran B s room img next
-  EndSays B s room img (E.Unsound i) = runFrom L B (fronts B - s) s room img ≡ refused 3 i
 
 -- two ascending lists that fit `room` places together; merged into the start of `old`, which is `new` after it
 abbrev pub Mergeable : List ℕ → List ℕ → ℕ → Type 0

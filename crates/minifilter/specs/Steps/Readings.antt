@@ -1,7 +1,8 @@
 -- A bucket as the code's contracts speak of it: what the reader says, and a bucket that it found sound.
 use mathlib.Core.Path.{_≡_}
-use Prim.Native.Nat.{ℕ, _+_, _*_, _≤_, _<_}
-use mathlib.Core.List.{List, [], _∷_}
+use Prim.Native.Nat.{ℕ, _*_, _≤_, _<_}
+use mathlib.Core.Bool.{Bool, true, false}
+use mathlib.Core.List.{List}
 use mathlib.Core.Option.{Option, none, some}
 use lib.ListN.{length}
 use Rattle.multiset.specs.Multisets.{below}
@@ -9,8 +10,6 @@ use Rattle.crumbmap.specs.Layouts.{Layout, keys, backyards}
 use Rattle.buckets.specs.Buckets.{frontMembers, backMembers, frontList, backList}
 use Rattle.minifilter.specs.declared.Reading.{Reading}
 use Rattle.minifilter.specs.declared.Reading.the-variants.{Members, Unsound}
-use Rattle.minifilter.specs.declared.Carried.{Carried}
-use Rattle.minifilter.specs.declared.Carried.the-variants.{Key, Nothing}
 
 -- "its member count, or unsound", and how many members are below x
 abbrev pub readingOf : ℕ → Option (List ℕ) → Reading
@@ -36,7 +35,11 @@ module _ (L : Layout) where
     pub inside : bucket < backyards size
     pub range : member < keys L * 16
 
--- the head of the keys that carry crumb c among members ys, and how many members are below it
-abbrev pub firstOf : ℕ → List ℕ → List ℕ → Carried
-firstOf c ys [] = Nothing
-firstOf c ys (x ∷ xs) = Key x (below (x * 16 + c) ys)
+-- the same of either kind of bucket, `crumbs` true of a backyard bucket, and its members
+abbrev pub Sound : Layout → Bool → List ℕ → Type 0
+Sound L false b = SoundFront L b
+Sound L true b = SoundBack L b
+
+abbrev pub membersOf : Layout → Bool → List ℕ → List ℕ
+membersOf L false b = frontList L b
+membersOf L true b = backList L b

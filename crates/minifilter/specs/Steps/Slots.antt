@@ -37,6 +37,11 @@ abbrev pub withCrumbs : Bool → List ℕ → List ℕ → List ℕ
 withCrumbs true xs cs = joined 16 xs cs
 withCrumbs false xs cs = xs
 
+-- how many members of one mini-bucket differ
+abbrev pub spanOf : Layout → Bool → ℕ
+spanOf L true = tags L * 16
+spanOf L false = tags L
+
 -- one mini-bucket past the last, tag 0, crumb 0: above every member
 abbrev pub endOf : Layout → Bool → ℕ
 endOf L true = keys L * 16
@@ -91,6 +96,11 @@ module _ (L : Layout) (crumbs : Bool) where
 -- the crumb of one slot
 abbrev pub crumbAt : Layout → List ℕ → ℕ → ℕ
 crumbAt L b slot = getD (crumbsIn L b) slot 0
+
+-- what the bytes hold of one slot: its tag, in a backyard bucket tag × 16 + crumb
+abbrev pub lowAt : Layout → Bool → List ℕ → ℕ → ℕ
+lowAt L true b slot = tagAt L true b slot * 16 + crumbAt L b slot
+lowAt L false b slot = tagAt L false b slot
 
 -- ---- what the reader says of them
 

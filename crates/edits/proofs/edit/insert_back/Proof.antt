@@ -8,7 +8,8 @@ use borrow.Author.Needs.{needs}
 use Rattle.crumbmap.specs.Layouts.{layout1}
 use Rattle.buckets.specs.Buckets.{backList, slotEnd, crumbRoom}
 use Rattle.words.specs.Steps.Wide.{wordBytes1}
-use Rattle.edits.specs.Steps.Edits.{slotInserted, crumbInserted}
+use Rattle.shifts.specs.Steps.Shifts.{crumbInserted}
+use Rattle.edits.specs.Steps.Edits.{slotInserted}
 use Rattle.multiset.proofs.RankLaws.{below-le-length}
 use Rattle.buckets.proofs.ElementLaws.{below-bytes}
 use Rattle.buckets.proofs.BucketLaws.{fits1}

@@ -6,7 +6,7 @@ use native.Mathlib.Omega.{arith}
 use borrow.Author.Tests.{not-true, not-false}
 use Rattle.crumbmap.specs.Layouts.{layout1, fronts}
 use Rattle.buckets.proofs.BucketLaws.{fits1}
-use Rattle.merging.proofs.CheckedImages.{Known, known}
+use Rattle.joining.proofs.CheckedImages.{Known, known}
 use Rattle.merging.proofs.MergeSteps.{Reaching, fronts-start, fronts-merging, fronts-full, fronts-on, fronts-end}
 use Rattle.merging.proofs.merge.merge_fronts.Statement.{statement}
 use Rattle.merging.proofs.merge.merge_fronts.Tie as tie

@@ -2,7 +2,7 @@
 use borrow.Author.Needs.{needs}
 use Rattle.crumbmap.specs.Layouts.{layout1}
 use Rattle.machine.specs.Merges.{mergeSized}
-use Rattle.merging.specs.Steps.Merging.{Checked}
+use Rattle.joining.specs.Steps.Joins.{Checked}
 use Rattle.merging.proofs.MergeSteps.{check-refuses, check-passes}
 use Rattle.merging.proofs.merge.merge_sized.Statement.{statement}
 use Rattle.merging.proofs.merge.merge_sized.Tie as tie

@@ -1,0 +1,2 @@
+-- One front bucket of a merge as its contracts speak of it.
+pub mod Steps

@@ -1,0 +1,3 @@
+// One front bucket of two images merged into a third.
+
+pub mod join;

@@ -1,2 +1,0 @@
--- The passes of a merge.
-pub mod Steps

@@ -1,2 +1,0 @@
--- Inner steps of merge.
-pub mod Merging

@@ -1,0 +1,2 @@
+-- Laws of a run of whole buckets, and of the endings of a page.
+pub mod PageSteps

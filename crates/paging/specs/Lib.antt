@@ -1,0 +1,2 @@
+-- The steps of page.
+pub mod Steps

@@ -1,0 +1,74 @@
+// A stored line that keeps the lengths of the images: a call on one image or three, or bytes poked.
+
+use crate::Outcome;
+use capi::bcf_ask;
+use capi::bcf_check;
+use capi::bcf_count;
+use capi::bcf_delete;
+use capi::bcf_fresh;
+use capi::bcf_insert;
+use capi::bcf_merge;
+use capi::bcf_page;
+use stored::images::poke;
+use stored::sum::of_image;
+use stored::sum::of_merge;
+use stored::sum::of_page;
+
+// A line on one image.
+pub fn within(operation: u64, image: &mut [u8], p: u64, q: usize, out: &mut [u64]) -> Outcome {
+    if operation == 9 {
+        poke(image, q, p);
+        return Outcome::Nothing;
+    }
+    if operation == 5 {
+        return page(image, p, out, q);
+    }
+    call(operation, image, p)
+}
+
+// The calls on one image: insert, delete, ask, count, fresh and check. There is no other operation.
+fn call(operation: u64, image: &mut [u8], hash: u64) -> Outcome {
+    if 7 < operation {
+        return Outcome::Nothing;
+    }
+    let answer = answer_of(operation, image, hash);
+    Outcome::Said(operation, answer, of_image(image))
+}
+
+// What it gives: 7, a check, is the last that is left.
+fn answer_of(operation: u64, image: &mut [u8], hash: u64) -> u64 {
+    match operation {
+        1 => bcf_insert(image, hash),
+        2 => bcf_delete(image, hash),
+        3 => bcf_ask(image, hash),
+        4 => bcf_count(image, hash),
+        6 => bcf_fresh(image),
+        _ => bcf_check(image),
+    }
+}
+
+// A page into the first q entries of `out`, if there are so many.
+fn page(image: &[u8], from: u64, out: &mut [u64], q: usize) -> Outcome {
+    if out.len() < q {
+        return Outcome::Nothing;
+    }
+    let out = &mut out[0..q];
+    fill(out);
+    let answer = bcf_page(image, from, out);
+    Outcome::Said(5, answer, of_page(image, out))
+}
+
+// Entry i becomes 2^64 - 1 - i.
+fn fill(out: &mut [u64]) {
+    let mut i = 0;
+    while i < out.len() {
+        out[i] = u64::MAX - (i as u64);
+        i += 1;
+    }
+}
+
+// Two images into a third.
+pub fn merge<'a>(first: &'a [u8], second: &'a [u8], target: &mut [u8]) -> Outcome {
+    let answer = bcf_merge(first, second, target);
+    Outcome::Said(8, answer, of_merge(first, second, target))
+}

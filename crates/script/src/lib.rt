@@ -1,0 +1,3 @@
+// Stored lines performed on three images.
+
+pub mod perform;

@@ -1,0 +1,67 @@
+// A line performed on the images that it names.
+
+use replay::Outcome;
+use replay::call::merge;
+use replay::call::within;
+use stored::images::Lengths;
+use stored::images::copied;
+use stored::images::length_of;
+use stored::images::picked;
+use stored::images::with_length;
+use stored::images::zeroed;
+use stored::line::Line;
+use stored::line::Parsed;
+use stored::line::parse;
+
+// One line on the three images; any other text does nothing.
+pub fn step(
+    text: &[u8],
+    lengths: Lengths,
+    a: &mut [u8],
+    b: &mut [u8],
+    c: &mut [u8],
+    out: &mut [u64],
+) -> Outcome {
+    let Parsed::Line(line) = parse(text) else {
+        return Outcome::Nothing;
+    };
+    let target = line.target;
+    match target {
+        0 => perform(line, lengths, b, c, a, out),
+        1 => perform(line, lengths, a, c, b, out),
+        _ => perform(line, lengths, a, b, c, out),
+    }
+}
+
+// A line on its image, which begins `buffer`; the two others begin `lower` and `upper`.
+fn perform<'a>(
+    line: Line,
+    lengths: Lengths,
+    lower: &'a [u8],
+    upper: &'a [u8],
+    buffer: &mut [u8],
+    out: &mut [u64],
+) -> Outcome {
+    let operation = line.operation;
+    let target = line.target;
+    let n = length_of(lengths, target);
+    if operation == 0 {
+        return Outcome::Lengths(with_length(lengths, target, zeroed(buffer, n, line.q)));
+    }
+    let first = picked(lower, upper, lengths, line.first, target);
+    if operation == 10 {
+        return Outcome::Lengths(with_length(lengths, target, copied(first, buffer, n)));
+    }
+    if buffer.len() < n {
+        return Outcome::Nothing;
+    }
+    let image = &mut buffer[0..n];
+    if operation == 8 {
+        return merge(
+            first,
+            picked(lower, upper, lengths, line.second, target),
+            image,
+        );
+    }
+    within(operation, image, line.p, line.q, out)
+}

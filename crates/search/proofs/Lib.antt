@@ -1,0 +1,3 @@
+-- Laws of search and of lists.
+pub mod SearchLaws
+pub mod ListLaws

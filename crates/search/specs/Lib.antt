@@ -1,0 +1,2 @@
+-- A bucket that was read as the contracts of its search speak of it.
+pub mod Steps

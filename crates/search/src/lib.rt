@@ -1,0 +1,10 @@
+// What a bucket that was read holds: where a member stands and how often, the largest, and the members in order.
+
+pub mod find;
+pub mod list;
+
+// The lowest key among a backyard bucket's members that carry a crumb, and its lowest slot.
+pub enum Carried {
+    Key(u32, usize),
+    Nothing,
+}

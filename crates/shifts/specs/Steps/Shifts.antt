@@ -1,0 +1,30 @@
+-- A stretch of bytes or halves that something is put into or taken out of.
+use Prim.Native.Nat.{ℕ, _+_, _-_}
+use mathlib.Core.List.{List, [], _∷_, _++_}
+use lib.ListN.{length, take, drop, replicate}
+use Rattle.multiset.specs.Digits.{spread, grouped}
+
+-- ---- lists
+
+-- a list with vs put in at a place, and with n of its members taken out there, where zeros follow
+abbrev pub inserted : ℕ → List ℕ → List ℕ → List ℕ
+inserted at vs l = take at l ++ (vs ++ drop at l)
+
+abbrev pub takenOut : ℕ → ℕ → List ℕ → List ℕ
+takenOut at n l = take at l ++ (drop (at + n) l ++ replicate n 0)
+
+-- ---- crumbs
+
+-- bytes of two halves each, with a half put in at a slot, the last falling off, and with the one there taken out
+unfoldable pub crumbInserted : ℕ → ℕ → List ℕ → List ℕ
+crumbInserted slot crumb s = grouped 16 2 (length s) (inserted slot (crumb ∷ []) (spread 16 2 s))
+
+unfoldable pub crumbRemoved : ℕ → List ℕ → List ℕ
+crumbRemoved slot s = grouped 16 2 (length s) (takenOut slot 1 (spread 16 2 s))
+
+-- the same where the slot is the lower half of byte `from`
+unfoldable pub halfPushed : ℕ → ℕ → List ℕ → List ℕ
+halfPushed from half s = take from s ++ grouped 16 2 (length s - from) (half ∷ spread 16 2 (drop from s))
+
+unfoldable pub halfPopped : ℕ → List ℕ → List ℕ
+halfPopped from s = take from s ++ grouped 16 2 (length s - from) (drop 1 (spread 16 2 (drop from s)) ++ (0 ∷ []))
