@@ -68,7 +68,7 @@ joined-at k (m ∷ ms) [] s h l = absurd (omega arith)
 joined-at k (m ∷ ms) (r ∷ rs) zero h l = refl
 joined-at k (m ∷ ms) (r ∷ rs) (suc s) h l = joined-at k ms rs s (omega arith) (omega arith)
 
-pub below-at : (k i : ℕ) (l : List ℕ) → 0 < k → Below k l → getD l i 0 < k
-below-at k i [] p b = p
-below-at k zero (x ∷ xs) p b = b .0
-below-at k (suc i) (x ∷ xs) p b = below-at k i xs p (b .1)
+pub below-getD : (k i : ℕ) (l : List ℕ) → 0 < k → Below k l → getD l i 0 < k
+below-getD k i [] p b = p
+below-getD k zero (x ∷ xs) p b = b .0
+below-getD k (suc i) (x ∷ xs) p b = below-getD k i xs p (b .1)

@@ -3,7 +3,7 @@
 use mathlib.Core.Path.{_≡_, refl, sym, ap, ap₂, _∙_}
 use Prim.Native.Nat.{ℕ, zero, suc, _+_, _*_, _/_, _%_, _≤_, _<_, _-_}
 use mathlib.Core.List.{List, [], _∷_, _++_}
-use native.Mathlib.Nat.{zero-div, mul-comm, mul-assoc, mul-le-mul-right, mul-add-div-right, div-eq-of-lt, add-zero, div-add-mod', div-mul-le-self, le-div-iff-mul-le, div-div-eq-div-mul, zero-mod}
+use native.Mathlib.Nat.{zero-div, mul-comm, mul-assoc, mul-le-mul-right, div-add-mod', div-mul-le-self, le-div-iff-mul-le, div-div-eq-div-mul, zero-mod}
 use native.Mathlib.Decide.{decLe}
 use native.Mathlib.Omega.{arith}
 use lib.ListN.{length, getD, replicate}
@@ -18,9 +18,6 @@ parts-lt k y m r h l = omega (arith, mul-le-mul-right {m = y / k} {n = m} k (ome
 
 pub parts-le : (k y m r : ℕ) → m ≤ y / k → r ≤ y % k → m * k + r ≤ y
 parts-le k y m r h l = omega (arith, mul-le-mul-right {m = m} {n = y / k} k h, div-add-mod' y k)
-
-pub parts-high : (k m r : ℕ) → r < k → (m * k + r) / k ≡ m
-parts-high k m r h = mul-add-div-right {m = k} (omega arith) m r ∙ rw (div-eq-of-lt h) (add-zero m)
 
 -- a crumb below a tag below a mini-bucket
 pub high-parts : (t y : ℕ) → y / 16 / t ≡ y / (t * 16)

@@ -1,7 +1,7 @@
 -- Lists in pieces: their digits, groups and joined lists in front of a place and behind it, zeros at the end, one element more.
 -- Main results: `spread-append`, `spread-take`, `spread-drop`, `grouped-take`, `joined-append`, `allZero-split`, `store`.
 use mathlib.Core.Path.{_≡_, refl, sym, ap, ap₂, _∙_}
-use Prim.Native.Nat.{ℕ, zero, suc, _+_, _*_, _-_, _≤_, _<_, zero-le, min}
+use Prim.Native.Nat.{ℕ, zero, suc, _+_, _*_, _-_, _≤_, _<_, zero-le}
 use mathlib.Core.Bool.{Bool, _&&_, and-assoc}
 use mathlib.Core.List.{List, [], _∷_, _++_, append-assoc}
 use native.Mathlib.Nat.{zero-div, zero-mod, zero-mul, suc-mul, add-comm, suc-add, zero-add, sub-zero, suc-sub-suc}
@@ -85,12 +85,6 @@ grouped-take base size (suc n) ds =
     (ap (grouped base size n) (drop-take size (n * size) ds) ∙ grouped-take base size n (drop size ds)))
 
 -- ---- two lists joined
-
-pub length-joined-min : (k : ℕ) (ms rs : List ℕ) → length (joined k ms rs) ≡ min (length ms) (length rs)
-unfolding joined
-length-joined-min k [] rs = omega arith
-length-joined-min k (m ∷ ms) [] = omega arith
-length-joined-min k (m ∷ ms) (r ∷ rs) = omega (arith, length-joined-min k ms rs)
 
 pub joined-append : (k : ℕ) (ms ns rs : List ℕ) → length ms ≤ length rs → joined k (ms ++ ns) rs ≡ joined k ms rs ++ joined k ns (drop (length ms) rs)
 unfolding joined

@@ -34,15 +34,15 @@ unfolding fingerprint
 fingerprint-lt L n f x h k = digits-lt h k
 
 -- the digits of a × k + r
-quotient : (k a r : ℕ) → r < k → (a * k + r) / k ≡ a
-quotient k a r h = mul-add-div-right {m = k} (omega arith) a r ∙ ap (λ (n : ℕ). a + n) (div-eq-of-lt h) ∙ add-zero a
+pub parts-high : (k a r : ℕ) → r < k → (a * k + r) / k ≡ a
+parts-high k a r h = mul-add-div-right {m = k} (omega arith) a r ∙ rw (div-eq-of-lt h) (add-zero a)
 
-remainder : (k a r : ℕ) → r < k → (a * k + r) % k ≡ r
-remainder k a r h = mul-add-mod-self-right a k r ∙ mod-eq-of-lt h
+parts-low : (k a r : ℕ) → r < k → (a * k + r) % k ≡ r
+parts-low k a r h = mul-add-mod-self-right a k r ∙ mod-eq-of-lt h
 
 pub fingerprint-unique : (L : Layout) (e f x y : ℕ) → x < keys L → y < keys L → fingerprint L e x ≡ fingerprint L f y → (e ≡ f) × (x ≡ y)
 unfolding fingerprint
 fingerprint-unique L e f x y h k q = (
-  sym (quotient (keys L) e x h) ∙ ap (λ (n : ℕ). n / keys L) q ∙ quotient (keys L) f y k,
-  sym (remainder (keys L) e x h) ∙ ap (λ (n : ℕ). n % keys L) q ∙ remainder (keys L) f y k,
+  sym (parts-high (keys L) e x h) ∙ ap (λ (n : ℕ). n / keys L) q ∙ parts-high (keys L) f y k,
+  sym (parts-low (keys L) e x h) ∙ ap (λ (n : ℕ). n % keys L) q ∙ parts-low (keys L) f y k,
 )

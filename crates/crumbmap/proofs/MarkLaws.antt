@@ -27,8 +27,9 @@ ones-in k d h =
 ones-out : (k d : ℕ) → k ≤ d → (2 ^ k - 1) / 2 ^ d % 2 ≡ 0
 ones-out k d h = rw (div-eq-of-lt (lt-of-lt-of-le (ones-lt k) (pow-mono h)))
 
-pub one-shl : (k : ℕ) → k < 32 → (1 * 2 ^ k) % 2 ^ 32 ≡ 2 ^ k
-one-shl k h = shl-exact 1 k 32 (lit< tt) (omega arith) ∙ one-mul (2 ^ k)
+-- a bit at a place, in any width
+pub one-shl : (bits k : ℕ) → k < bits → (1 * 2 ^ k) % 2 ^ bits ≡ 2 ^ k
+one-shl bits k h = shl-exact 1 k bits (lit< tt) (omega arith) ∙ one-mul (2 ^ k)
 
 -- the digits of one choice: the lowest so many are valid
 pub marks-back : {homes : ℕ → Option ℕ} {r : Homes} → LeadsBack homes r → Marks 8 homes (2 ^ r .digits - 1)

@@ -20,7 +20,7 @@ use Rattle.machine.specs.Machine.{bagIn}
 use Rattle.buckets.proofs.CarryLaws.{copies-carrying, below-carrying}
 use Rattle.image.specs.Steps.ImageReads.{BothRead}
 use Rattle.image.proofs.ImageReadLaws.{chosen-read, chosen-way}
-use Rattle.deletion.specs.Steps.Deletions.{pickOf, firstly, Stands, Leaves}
+use Rattle.deletion.specs.Steps.Deletions.{pickOf, firstly, Leaves}
 use Rattle.deletion.specs.declared.Departure.{Departure}
 use Rattle.deletion.specs.declared.Leaving.{Leaving}
 use Rattle.deletion.specs.declared.Leaving.the-variants as W

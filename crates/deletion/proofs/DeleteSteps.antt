@@ -1,14 +1,13 @@
 -- A delete by what was read: the copy stands in front with free slots, in a full front that is refilled, behind it, or nowhere.
-use mathlib.Core.Path.{_≡_, refl, _∙_}
+use mathlib.Core.Path.{_≡_, _∙_}
 use Prim.Native.Nat.{ℕ, _+_, _≤_, _<_}
-use mathlib.Core.Bool.{Bool, true, false, cond}
+use mathlib.Core.Bool.{true, false}
 use mathlib.Core.List.{List, [], _∷_}
 use native.Mathlib.Omega.{arith}
 use lib.ListN.{length}
 use borrow.Author.Tests.{lt-ltb, le-ltb, eq-eqb, ne-eqb}
 use Rattle.multiset.specs.Multisets.{added, removed, copies, largest}
 use Rattle.crumbmap.specs.Layouts.{Layout}
-use Rattle.crumbmap.specs.CrumbMap.{firstBucket, secondBucket, bucketOf}
 use Rattle.buckets.specs.Buckets.{Fits64, FrontList}
 use Rattle.machine.specs.Results.{refused}
 use Rattle.machine.specs.Images.{inFront, inBack, putFront}
@@ -21,7 +20,7 @@ use Rattle.image.specs.declared.Target.{Target}
 use Rattle.image.proofs.ImageReadLaws.{both-accepts, exceeds-absent, at-copies}
 use Rattle.image.proofs.ImageWriteLaws.{back-kept}
 use Rattle.machine.proofs.BagLaws.{has-yes, has-no}
-use Rattle.machine.proofs.Members.{inBack-choice, front-swapped}
+use Rattle.machine.proofs.Members.{inBack-choice, frontList-swapped}
 use Rattle.machine.proofs.BucketWrites.{inBack-putFront}
 use Rattle.deletion.specs.Steps.Deletions.{Stands, Leaves, without, refilled, Plans, LeavesFront, Refills, TakesOut}
 use Rattle.deletion.specs.declared.Departure.{Departure}
@@ -127,7 +126,7 @@ module _ {L : Layout} (fits : Fits64 L) {t : Target} {r : Refill} {img mid : Lis
     (e : mid ≡ putFront L (t .front .0) (added (r .member .key) (removed (t .key) (inFront L (t .front .0) img))) img) where
   swapped : FrontList L (added (r .member .key) (removed (t .key) (inFront L (t .front .0) img)))
   swapped =
-      front-swapped L (t .key) (r .member .key) (inFront L (t .front .0) img) (p .swap .read .list) (at-copies (p .swap .read .list .order) (p .swap .stands)) (p .swap .key)
+      frontList-swapped L (t .key) (r .member .key) (inFront L (t .front .0) img) (p .swap .read .list) (at-copies (p .swap .read .list .order) (p .swap .stands)) (p .swap .key)
 
   kept : inBack L (t .size) (r .member .way .bucket .0) mid ≡ inBack L (t .size) (r .member .way .bucket .0) img
   kept = rw e (inBack-putFront L fits (t .front .0) (added (r .member .key) (removed (t .key) (inFront L (t .front .0) img))) img (p .swap .read .inside) swapped (t .size) (r .member .way .bucket .0)

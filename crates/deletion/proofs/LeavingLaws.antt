@@ -9,7 +9,7 @@ use native.Mathlib.Omega.{arith}
 use lib.Dec.{T, ltb}
 use borrow.Author.Tests.{lt-ltb, ltb-true, ltb-false}
 use Rattle.multiset.specs.Multisets.{copies, below, ascending}
-use Rattle.multiset.proofs.MultisetLaws.{hit-same, copies-cons}
+use Rattle.multiset.proofs.MultisetLaws.{hit-same, copies-cons, copies-none}
 use Rattle.multiset.proofs.OrderLaws.{head-least}
 use Rattle.crumbmap.specs.Layouts.{Layout}
 use Rattle.crumbmap.specs.CrumbMap.{bucketOf, crumbOf}
@@ -103,12 +103,6 @@ headed m (u ∷ us) a h least =
     let e : m ≡ u = le-antisymm (least u c) (head-least m u us a h) in
     (us, rw e)
 
--- a list without any member
-none-in : (l : List ℕ) → ((z : ℕ) → copies z l ≡ 0) → l ≡ []
-unfolding copies
-none-in [] h = refl
-none-in (u ∷ us) h = absurd (omega (arith, h u, copies-cons u u us, hit-same u))
-
 module _ {L : Layout} {B f x : ℕ} {img : List ℕ} {a b : BackReading} (p : Reads L true B f x img a) (q : Reads L false B f x img b) where
   module _ {r : Leaving} (said : r ≡ pickOf (leastIn L B (a .way) img) (leastIn L B (b .way) img) (a .members) (b .members)) where
     least-picks : Picks L B f img any r
@@ -118,7 +112,7 @@ module _ {L : Layout} {B f x : ℕ} {img : List ℕ} {a b : BackReading} (p : Re
     pub least-nothing : r ≡ W.Nothing → overflowIn L B f img ≡ []
     least-nothing e =
         let n : Picks L B f img any W.Nothing = rw e at least-picks in
-        none-in (overflowIn L B f img) (λ z. rw (copies-addedAll z (bagIn L B f true img) (bagIn L B f false img)) (n z tt))
+        copies-none (overflowIn L B f img) (λ z. rw (copies-addedAll z (bagIn L B f true img) (bagIn L B f false img)) (n z tt))
 
     pub least-member : {d : Departure} → r ≡ W.Member d → Leaves L B f d img × ((us : List ℕ) × (overflowIn L B f img ≡ d .key ∷ us))
     least-member {d} e =

@@ -1,5 +1,5 @@
 -- The bytes of a front bucket's keys, key by key: the word as each gets its zero, behind those before it, and the tags as each gets its bytes.
--- Main results: `word-next`, `front-written`, and of tags of two bytes (layout 1) `tags-next`, `tags-all`.
+-- Main results: `word-next`, `frontBytes-written`, and of tags of two bytes (layout 1) `tags-next`, `tags-all`.
 use mathlib.Core.Path.{_≡_, refl, sym, ap, _∙_}
 use Prim.Native.Nat.{ℕ, suc, _+_, _*_, _/_, _%_, _-_, _^_, _≤_, _<_}
 use mathlib.Core.List.{List, [], _∷_, _++_, append-nil}
@@ -62,11 +62,11 @@ module _ (L : Layout) (xs : List ℕ) (f : FrontList L xs) where
 -- ---- the bucket
 
 -- whose word and tags take all 64 bytes
-pub front-written : (L : Layout) → slotEnd L (L .frontSlots) ≡ 64 → (b xs ts : List ℕ) (w : ℕ) → length b ≡ 64 → FrontList L xs
+pub frontBytes-written : (L : Layout) → slotEnd L (L .frontSlots) ≡ 64 → (b xs ts : List ℕ) (w : ℕ) → length b ≡ 64 → FrontList L xs
     → w ≡ wordFrom (L .minis) 0 (highs (tags L) xs) → ts ≡ tagPart L (L .frontSlots) xs
     → digits 256 (wordBytes L (L .frontSlots)) w ++ (ts ++ drop 64 b) ≡ frontBytes L xs
 unfolding slotBytes
-front-written L whole b xs ts w long f e q =
+frontBytes-written L whole b xs ts w long f e q =
     let slots : ℕ = L .frontSlots in
     let none : drop 64 b ≡ [] = drop-of-length-le b {i = 64} (omega arith) in
     let rest : frontRest L xs ≡ [] = rw (length-slotBytes L slots xs (f .room), whole) in

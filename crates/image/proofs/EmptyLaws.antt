@@ -5,19 +5,15 @@ use Prim.Native.Nat.{ℕ, zero, suc, _+_, _*_}
 use mathlib.Core.List.{List, [], _++_, append-assoc, append-nil}
 use native.Mathlib.Nat.{zero-add, suc-add}
 use native.Mathlib.Omega.{arith}
-use lib.ListN.{length, drop, length-append}
+use lib.ListN.{length, drop}
 use lib.Seq.{take-at, drop-at, drop-drop}
 use Rattle.multiset.specs.Multisets.{copies}
 use Rattle.multiset.specs.Digits.{digits, value, spread, grouped, padded}
 use Rattle.crumbmap.specs.Layouts.{Layout, layout1, fronts, backyards}
 use Rattle.buckets.specs.Words.{wordFrom}
-use Rattle.buckets.specs.Buckets.{Fits64, slotBytes, frontBytes, backBytes}
-use Rattle.buckets.proofs.BucketLaws.{length-frontBytes}
+use Rattle.buckets.specs.Buckets.{slotBytes, frontBytes, backBytes}
 use Rattle.machine.specs.Images.{put, repeated, emptyImage}
 use Rattle.machine.proofs.ImageLaws.{length-repeated}
-
-pub length-empty-bucket : (L : Layout) → Fits64 L → length (frontBytes L []) ≡ 64
-length-empty-bucket L fits = length-frontBytes L fits [] (omega arith)
 
 repeated-add : (n m : ℕ) (b : List ℕ) → repeated (n + m) b ≡ repeated n b ++ repeated m b
 unfolding repeated

@@ -1,6 +1,6 @@
 -- What the steps of a call hand on, for any layout: a hash's target fits its image, its buckets lie in it, and what a bucket that was read says
 -- of the machine.
-use mathlib.Core.Path.{_≡_, refl, sym}
+use mathlib.Core.Path.{_≡_, refl, sym, _∙_}
 use Prim.Native.Nat.{ℕ, zero, suc, _+_, _*_, _-_, _≤_, _<_}
 use mathlib.Core.Bool.{Bool, true, false}
 use mathlib.Core.List.{List}
@@ -14,14 +14,14 @@ use Rattle.multiset.proofs.OrderLaws.{copies-largest, largest-max}
 use Rattle.multiset.proofs.SlotLaws.{slot-inside, slot-holds, holds-copy, largest-at}
 use Rattle.crumbmap.specs.Layouts.{Layout, keys, fronts, backyards}
 use Rattle.crumbmap.specs.Fingerprints.{frontOf, keyOf}
-use Rattle.crumbmap.specs.CrumbMap.{firstBucket, secondBucket, bucketOf, crumbOf}
+use Rattle.crumbmap.specs.CrumbMap.{firstBucket, secondBucket, bucketOf}
 use Rattle.crumbmap.specs.Steps.Places.{Leads}
 use Rattle.crumbmap.specs.declared.Overflow.{Overflow}
 use Rattle.buckets.specs.Buckets.{Fits64}
 use Rattle.minifilter.specs.declared.Reading.{Reading}
 use Rattle.minifilter.specs.declared.Reading.the-variants as R
 use Rattle.machine.specs.Results.{Result, accepted, refused, andThen}
-use Rattle.machine.specs.Images.{sizeOf, sized, lengthOf, frontAt, backAt, inFront, inBack}
+use Rattle.machine.specs.Images.{sizeOf, sized, frontAt, backAt, inFront, inBack}
 use Rattle.machine.specs.Machine.{backyard}
 use Rattle.machine.proofs.ImageLaws.{sizeOf-some, sizeOf-lengthOf, front-inside, back-inside}
 use Rattle.image.specs.Steps.ImageReads.{sizing, Locates, LocatedIn, Whole, FrontIn, Placed, BackIn, At, FrontRead, BackRead, FrontSays, BackSays, BothRead, Reads, ReadFor, BackyardSays, FrontFull, Exceeds}
@@ -52,6 +52,10 @@ whole-of {B} img e = let s = sizeOf-some (length img) B e in record { long = s .
 pub whole-sized : {B : ℕ} {img : List ℕ} → Whole B img → sizeOf (length img) ≡ some B
 whole-sized {B} w = rw (w .long) (sizeOf-lengthOf B (w .some) (w .small))
 
+-- and so is another with as many bytes
+pub whole-alike : {B : ℕ} {img now : List ℕ} → length now ≡ length img → Whole B img → Whole B now
+whole-alike e w = record { long = e ∙ w .long; some = w .some; small = w .small }
+
 -- its buckets lie in it
 pub front-in : {B f : ℕ} {img : List ℕ} → FrontIn B f img → 64 * f + 64 ≤ length img
 front-in {B} {f} p = rw (p .whole .long) (front-inside B f (p .front))
@@ -77,15 +81,15 @@ module _ (L : Layout) (img : List ℕ) (k : ℕ) {r : Located} (said : LocatedIn
 
 -- where it found members and where not
 module _ (L : Layout) (f x : ℕ) (img : List ℕ) {r : Reading} (said : FrontSays L f x img r) where
-  pub front-read : {n s : ℕ} → r ≡ R.Members n s → FrontRead L f img × (length (inFront L f img) ≡ n) × (s ≡ below x (inFront L f img))
-  front-read e = rw e at said
+  pub front-told : {n s : ℕ} → r ≡ R.Members n s → FrontRead L f img × (length (inFront L f img) ≡ n) × (s ≡ below x (inFront L f img))
+  front-told e = rw e at said
 
   pub front-unsound : r ≡ R.Unsound → frontAt L f img ≡ refused 3 f
   front-unsound e = rw e at said
 
 module _ (L : Layout) (B j y : ℕ) (img : List ℕ) {r : Reading} (said : BackSays L B j y img r) where
-  pub back-read : {n s : ℕ} → r ≡ R.Members n s → BackRead L B j img × (length (inBack L B j img) ≡ n) × (s ≡ below y (inBack L B j img))
-  back-read e = rw e at said
+  pub back-told : {n s : ℕ} → r ≡ R.Members n s → BackRead L B j img × (length (inBack L B j img) ≡ n) × (s ≡ below y (inBack L B j img))
+  back-told e = rw e at said
 
   pub back-unsound : r ≡ R.Unsound → backAt L B j img ≡ refused 3 (fronts B + j)
   back-unsound e = rw e at said
@@ -95,7 +99,7 @@ module _ (L : Layout) (t : Bool) {B f : ℕ} {w : Overflow} (leads : Leads t B f
     (said : BackSays L B (w .bucket .0) (x * 16 + w .crumb) img r) where
   pub way-read : {n s : ℕ} → r ≡ R.Members n s → Reads L t B f x img (record { way = w; members = n; below = s })
   way-read e =
-      let q = rw (leads .bucket, leads .crumb) at (back-read L B (w .bucket .0) (x * 16 + w .crumb) img said e) in
+      let q = rw (leads .bucket, leads .crumb) at (back-told L B (w .bucket .0) (x * 16 + w .crumb) img said e) in
       record { leads = leads; read = q .0; many = q .1; rank = q .2 }
 
   pub way-unsound : r ≡ R.Unsound → backAt L B (bucketOf t B f) img ≡ refused 3 (fronts B + bucketOf t B f)
@@ -168,5 +172,5 @@ module _ {L : Layout} (fits : Fits64 L) {f : ℕ} {img : List ℕ} (w : FrontFul
 pub at-copies : {x i : ℕ} {xs : List ℕ} → T (ascending xs) → At x i xs → 0 < copies x xs
 at-copies {x} {i} {xs} a h = holds-copy x i xs a (h .inside) (h .same)
 
-pub below-at : {x i : ℕ} {xs : List ℕ} → T (ascending xs) → i ≡ below x xs → 0 < copies x xs → At x i xs
-below-at {x} {i} {xs} a e h = rw e (record { inside = slot-inside x xs a h; same = slot-holds x xs a h })
+pub rank-at : {x i : ℕ} {xs : List ℕ} → T (ascending xs) → i ≡ below x xs → 0 < copies x xs → At x i xs
+rank-at {x} {i} {xs} a e h = rw e (record { inside = slot-inside x xs a h; same = slot-holds x xs a h })

@@ -6,7 +6,7 @@ use mathlib.Core.List.{List}
 use native.Mathlib.Omega.{arith}
 use lib.ListN.{length}
 use Rattle.crumbmap.specs.Layouts.{Layout, fronts}
-use Rattle.buckets.specs.Buckets.{Fits64, frontBytes, FrontList, frontList}
+use Rattle.buckets.specs.Buckets.{Fits64, FrontList, frontList}
 use Rattle.buckets.proofs.BucketLaws.{length-frontBytes, frontMembers-frontBytes}
 use Rattle.machine.specs.Images.{frontAt, backAt, inFront, putFront}
 use Rattle.machine.proofs.PutLaws.{put-same}

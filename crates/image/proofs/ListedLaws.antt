@@ -1,12 +1,11 @@
 -- A list written into a lent slice: from the bytes of a bucket, its length, its part, and two of them joined.
 use mathlib.Core.Path.{_≡_, sym, _∙_, ap}
-use Prim.Native.Nat.{ℕ, suc, _+_, _-_, _/_, _%_, _≤_}
-use mathlib.Core.Bool.{Bool, true, false, cond}
+use Prim.Native.Nat.{ℕ, _+_, _-_, _≤_}
 use mathlib.Core.List.{List, [], _∷_, _++_, map, append-assoc, append-nil}
 use native.Mathlib.Omega.{arith}
 use lib.ListN.{length, take, drop, length-append, length-drop, length-map, drop-of-length-le, take-append-drop}
 use lib.Seq.{take-at, take-all, drop-at, drop-append-le, drop-drop}
-use lib.Dec.{T, eqb}
+use lib.Dec.{T}
 use borrow.Rule.Slice.PartMut.{putMid}
 use Rattle.multiset.specs.Multisets.{ascending}
 use Rattle.crumbmap.specs.Layouts.{Layout}

@@ -1,20 +1,16 @@
 -- The 64-byte parts that the code lends are the buckets of the image: `part-bucket` for a part that is read, `put-part` for one that is written.
 -- What the reader says of a part is what the image says of that bucket: `front-says`, `back-says`.
 use mathlib.Core.Path.{_≡_, refl}
-use Prim.Native.Nat.{ℕ, zero, suc, _+_, _*_, _-_, _≤_, _<_}
+use Prim.Native.Nat.{ℕ, _+_, _*_, _-_, _≤_, _<_}
 use mathlib.Core.List.{List, [], _∷_}
-use mathlib.Core.Bool.{Bool, true, false}
-use mathlib.Core.Option.{Option, none, some, bind}
+use mathlib.Core.Option.{Option, none, some}
 use native.Mathlib.Omega.{arith}
 use lib.ListN.{length, take, drop, getD}
 use lib.Seq.{drop-drop}
 use borrow.Rule.Slice.PartMut.{putMid}
-use Rattle.multiset.specs.Multisets.{ascending, allZero, Below}
-use Rattle.multiset.specs.Digits.{joined, spread}
 use Rattle.crumbmap.specs.Layouts.{Layout, fronts}
-use Rattle.buckets.specs.Buckets.{Fits64, given, valid, slotEnd, slotKeys, frontMembers, backMembers, frontList, backList}
+use Rattle.buckets.specs.Buckets.{Fits64, frontMembers, backMembers, frontList}
 use Rattle.minifilter.specs.Steps.Readings.{readingOf}
-use Rattle.buckets.specs.Words.{listOf}
 use Rattle.minifilter.specs.declared.Reading.{Reading}
 use Rattle.buckets.proofs.BucketLaws.{backList-members, frontMembers-list, backMembers-list, frontBytes-frontMembers}
 use Rattle.machine.specs.Images.{lengthOf, sizeOf, bucketAt, put, frontAt, backAt}

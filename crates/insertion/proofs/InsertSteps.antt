@@ -1,5 +1,5 @@
 -- An insert by what was read: the front bucket has a free slot, both backyard buckets are full, or one of them takes the overflow.
-use mathlib.Core.Path.{_≡_, refl, _∙_}
+use mathlib.Core.Path.{_≡_, _∙_}
 use Prim.Native.Nat.{ℕ, suc, _+_, _*_, _≤_, _<_}
 use mathlib.Core.Bool.{Bool, true, false}
 use mathlib.Core.List.{List}

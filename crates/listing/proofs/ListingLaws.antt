@@ -1,6 +1,6 @@
 -- Lists that were written, and the members of a front bucket that was read, as the machine lists them, for any layout.
 -- Main results: `bags-merged`, First(f) and Second(f) listed where the choices lead to; `members-merged`, `members-range`, `members-room`,
--- `members-at`; `count-few`, `count-full`, `count-unsound`, what counting says.
+-- `members-at`; `counting-few`, `counting-full`, `counting-unsound`, what counting says.
 use mathlib.Core.Path.{_≡_, refl, ap}
 use Prim.Native.Nat.{ℕ, _+_, _≤_, _<_}
 use mathlib.Core.Bool.{Bool, true, false, cond}
@@ -18,7 +18,7 @@ use Rattle.machine.specs.Results.{accepted, refused, andThen}
 use Rattle.machine.specs.Images.{inFront}
 use Rattle.machine.specs.Bags.{addedAll}
 use Rattle.machine.specs.Machine.{backyard, overflow, bagIn, overflowIn, membersAt}
-use Rattle.machine.proofs.BagLaws.{length-addedAll, ascending-addedAll, below-addedAll}
+use Rattle.machine.proofs.BagLaws.{length-addedAll, ascending-addedAll, below-addedAll, addedAll-nil}
 use Rattle.buckets.proofs.CarryLaws.{below-carrying}
 use Rattle.image.specs.Steps.ImageReads.{FrontIn, FrontRead, BackRead, BothRead}
 use Rattle.image.specs.Steps.Listed.{Listed}
@@ -27,7 +27,6 @@ use Rattle.image.proofs.ListedLaws.{listed-take, carrying-room, carrying-order}
 use Rattle.listing.specs.Steps.Listings.{Mergeable, Merged, bagAt, behindIn, membersIn, BagRead, MembersRead, CountSays}
 use Rattle.listing.specs.declared.MemberCount.{MemberCount}
 use Rattle.listing.specs.declared.MemberCount.the-variants as M
-use Rattle.listing.proofs.MergedLists.{addedAll-nil}
 
 -- two lists that were written, merged into a third
 module _ {xs ys a b a' b' : List ℕ} {n m : ℕ} (l : Listed xs a n a') (k : Listed ys b m b') where
@@ -158,16 +157,16 @@ module _ {L : Layout} {B f : ℕ} {img : List ℕ} (r : MembersRead L B f img) w
 
 -- fewer in front than its slots; all its slots, and b0 and b1 sound; one of those unsound
 module _ {L : Layout} {f : ℕ} {img : List ℕ} (front : FrontRead L f img) where
-  pub count-few : {B : ℕ} → FrontIn B f img → length (inFront L f img) < L .frontSlots
+  pub counting-few : {B : ℕ} → FrontIn B f img → length (inFront L f img) < L .frontSlots
       → MembersRead L B f img × (length (membersIn L B f img) ≡ length (inFront L f img))
-  count-few {B} i h =
+  counting-few {B} i h =
       let m : MembersRead L B f img = record { within = i; front = front; behind = λ k. absurd (omega arith) } in
       (m, ap length (members-few m h))
 
-  pub count-full : {B : ℕ} → FrontIn B f img → L .frontSlots ≤ length (inFront L f img) → BothRead L B f img
+  pub counting-full : {B : ℕ} → FrontIn B f img → L .frontSlots ≤ length (inFront L f img) → BothRead L B f img
       → MembersRead L B f img
       × (length (membersIn L B f img) ≡ length (inFront L f img) + length (bagIn L B f true img) + length (bagIn L B f false img))
-  count-full {B} i h both =
+  counting-full {B} i h both =
       let m : MembersRead L B f img = record { within = i; front = front; behind = λ k. both } in (
         m,
         omega (
@@ -178,10 +177,10 @@ module _ {L : Layout} {f : ℕ} {img : List ℕ} (front : FrontRead L f img) whe
         ),
       )
 
-  pub count-unsound : (B : ℕ) → L .frontSlots ≤ length (inFront L f img) → {i : ℕ} → backyard L B f img ≡ refused 3 i
+  pub counting-unsound : (B : ℕ) → L .frontSlots ≤ length (inFront L f img) → {i : ℕ} → backyard L B f img ≡ refused 3 i
       → membersAt L B f img ≡ refused 3 i
   unfolding membersAt
-  count-unsound B h e = rw (front .accepts, le-ltb (length (inFront L f img)) (L .frontSlots) h, e)
+  counting-unsound B h e = rw (front .accepts, le-ltb (length (inFront L f img)) (L .frontSlots) h, e)
 
 -- what a count said
 module _ (L : Layout) (B f : ℕ) (img : List ℕ) {r : MemberCount} (said : CountSays L B f img r) where

@@ -12,11 +12,12 @@ use lib.ListN.{length, take, drop, getD, set, length-drop, length-set, length-ma
 use lib.Seq.{length-take-le, take-all, take-suc, drop-cons, drop-drop, set-at, take-suc-set, drop-set-lt}
 use lib.Dec.{T}
 use borrow.Author.Tests.{leb-true, leb-false}
-use Rattle.multiset.specs.Multisets.{added, copies, ascending, Below}
-use Rattle.multiset.proofs.MultisetLaws.{below-drop, hit-same, added-front, added-behind, copies-cons}
-use Rattle.multiset.proofs.OrderLaws.{ascending-tail, ascending-unique, head-least}
+use Rattle.multiset.specs.Multisets.{added, copies, ascending}
+use Rattle.multiset.proofs.MultisetLaws.{hit-same, added-front, added-behind, copies-cons}
+use Rattle.multiset.proofs.OrderLaws.{head-least}
+use Rattle.multiset.proofs.SlotLaws.{ascending-drop}
 use Rattle.machine.specs.Bags.{addedAll}
-use Rattle.machine.proofs.BagLaws.{copies-addedAll, ascending-addedAll}
+use Rattle.machine.proofs.BagLaws.{copies-addedAll}
 use Rattle.listing.specs.Steps.Listings.{Merged, fromLeft}
 
 -- ---- which head comes first
@@ -41,17 +42,6 @@ right-first y [] ys more = refl
 right-first y (x ∷ xs) ys more =
     rw (right-first y xs ys (λ z h. more z (omega (arith, copies-cons z x xs))))
     (added-behind x y (addedAll xs ys) (more x (omega (arith, copies-cons x x xs, hit-same x))))
-
--- nothing added to an ascending list
-pub addedAll-nil : (xs : List ℕ) → T (ascending xs) → addedAll xs [] ≡ xs
-unfolding copies ascending
-addedAll-nil xs a = ascending-unique (addedAll xs []) xs (ascending-addedAll xs [] tt) a (λ z. omega (arith, copies-addedAll z xs []))
-
--- the rest of an ascending list ascends
-ascending-drop : (i : ℕ) (xs : List ℕ) → T (ascending xs) → T (ascending (drop i xs))
-ascending-drop zero xs a = a
-ascending-drop (suc i) [] a = a
-ascending-drop (suc i) (x ∷ xs) a = ascending-drop i xs (ascending-tail x xs a)
 
 -- one turn of two lists: the head that comes first, and what is left
 left-turn : (xs ys : List ℕ) → T (ascending xs) → T (ascending ys) → fromLeft xs ys ≡ true
@@ -166,7 +156,3 @@ mapped-on g keys old out i h k e =
 pub mapped-all : (g : ℕ → ℕ) (keys old out : List ℕ) (i : ℕ) → i ≡ length keys → out ≡ map g (take i keys) ++ drop i old
     → out ≡ map g keys ++ drop (length keys) old
 mapped-all g keys old out i k e = rw (k, take-all (length keys) keys (omega arith)) at e
-
--- a member of a list of small numbers is small
-pub below-at : (k : ℕ) (xs : List ℕ) (i : ℕ) → Below k xs → i < length xs → getD xs i 0 < k
-below-at k xs i b h = (rw (drop-cons xs i 0 h) at (below-drop k i xs b)) .0

@@ -12,7 +12,7 @@ use Rattle.minifilter.specs.declared.Reading.{Reading}
 use Rattle.minifilter.specs.declared.Reading.the-variants as R
 use Rattle.machine.specs.Images.{bucketAt, inFront}
 use Rattle.image.specs.Steps.ImageReads.{FrontRead, FrontSays, FrontFull}
-use Rattle.image.proofs.ImageReadLaws.{front-read, front-full}
+use Rattle.image.proofs.ImageReadLaws.{front-told, front-full}
 
 -- front bucket f was read for key x: it holds n members, and `slot` of them are below x
 pub record Holds (L : Layout) (f x : ℕ) (img : List ℕ) (n slot : ℕ) : Type 0 where
@@ -22,7 +22,7 @@ pub record Holds (L : Layout) (f x : ℕ) (img : List ℕ) (n slot : ℕ) : Type
 
 pub holds : (L : Layout) (f x : ℕ) (img : List ℕ) {r : Reading} → FrontSays L f x img r → {n slot : ℕ} → r ≡ R.Members n slot
     → Holds L f x img n slot
-holds L f x img said e = let h = front-read L f x img said e in record { read = h .0; many = h .1; rank = h .2 }
+holds L f x img said e = let h = front-told L f x img said e in record { read = h .0; many = h .1; rank = h .2 }
 
 module _ {L : Layout} {f x n slot : ℕ} {img : List ℕ} (h : Holds L f x img n slot) where
   pub holds-all : L .frontSlots ≤ n → FrontFull L f img

@@ -19,7 +19,7 @@ use Rattle.machine.proofs.ImageLaws.{sizeOf-some, front-inside, back-in
 use Rattle.machine.proofs.BucketWrites.{length-putFront, frontAt-putFront, inFront-putFront, frontAt-putFront-other, inFront-putFront-other, backAt-putFront, inBack-putFront, length-putBack, backAt-putBack, inBack-putBack, backAt-putBack-other, inBack-putBack-other, frontAt-putBack, inFront-putBack}
 use Rattle.machine.proofs.Invariant.{part, over, over-choice, Good}
 use Rattle.machine.proofs.OverflowLaws.{bucketOf-list}
-use Rattle.machine.proofs.Members.{crumb-back, back-added, back-removed}
+use Rattle.machine.proofs.Members.{crumb-back, backList-added, backList-removed}
 
 not-same : (t : Bool) → not t ≡ t → ⊥
 not-same true e = false≢true e
@@ -206,7 +206,7 @@ module _ (L : Layout) (fits : Fits64 L) (B f v : ℕ) (h : f < fronts B) (img : 
     where
       w : BackWritten L B f t (added member ys) img (putBack L B (bucketOf t B f) (added member ys) img)
       w = back-written L fits B f h img good t (added member ys)
-          (back-added L B f v t ys (bucketOf-list L B f img good h t) h k r)
+          (backList-added L B f v t ys (bucketOf-list L B f img good h t) h k r)
           (λ y n. omega (arith, copies-added y member ys, other-hit y n))
           (λ y o. elim (ℕ-discrete (copies (y * 16 + crumbOf t f) ys) 0) [
             | yes p ↦
@@ -226,7 +226,7 @@ module _ (L : Layout) (fits : Fits64 L) (B f v : ℕ) (h : f < fronts B) (img : 
     where
       w : BackWritten L B f t (removed member ys) img (putBack L B (bucketOf t B f) (removed member ys) img)
       w = back-written L fits B f h img good t (removed member ys)
-          (back-removed L B f v t ys (bucketOf-list L B f img good h t) c)
+          (backList-removed L B f v t ys (bucketOf-list L B f img good h t) c)
           (λ y n. omega (arith, copies-removed y member ys c, other-hit y n))
           (λ y o. held-turn y (omega (arith, o, copies-removed (y * 16 + crumbOf t f) member ys c)))
 

@@ -134,8 +134,8 @@ module _ (L : Layout) (B : ℕ) (img : List ℕ) where
         | no q ↦ each-in-turn j y zs (p .1) (omega (arith, copies-cons y z zs, hit-other y z q))
       ]
 
-  pub turn-full : (x : ℕ) (xs : List ℕ) → inTurn L x (accepted xs) ≡ true → (length xs ≡ L .frontSlots) × (largest xs ≤ x)
-  turn-full x xs e = (search (left-true, eqb-true), search (right-true, leb-true))
+  pub inTurn-full : (x : ℕ) (xs : List ℕ) → inTurn L x (accepted xs) ≡ true → (length xs ≡ L .frontSlots) × (largest xs ≤ x)
+  inTurn-full x xs e = (search (left-true, eqb-true), search (right-true, leb-true))
 
   -- where none is unsound, each is read
   pub fronts-read : unsoundFront L (fronts B) 0 img ≡ none → (f : ℕ) → f < fronts B → frontAt L f img ≡ accepted (inFront L f img)
@@ -195,7 +195,7 @@ module _ (L : Layout) (fits : Fits64 L) (B : ℕ) (img : List ℕ) (bytes : (i :
       let mine = in-turn-passed L B img checked j (x * 16 + crumbOf t f) l c in
       let low : (x * 16 + crumbOf t f) % 16 ≡ crumbOf t f = omega (arith, crumbOf-lt t f) in
       let high : (x * 16 + crumbOf t f) / 16 ≡ x = omega (arith, crumbOf-lt t f) in
-      turn-full L B img x (inFront L f img) (rw (low, high, home-bucketOf t B f h, front-passed L B img checked f h) at mine)
+      inTurn-full L B img x (inFront L f img) (rw (low, high, home-bucketOf t B f h, front-passed L B img checked f h) at mine)
 
   pub good-checked : Good L B img
   good-checked = record {

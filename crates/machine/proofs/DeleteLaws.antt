@@ -22,7 +22,7 @@ use Rattle.machine.specs.Machine.{Change, changed, takeOut, overflow, ba
 use Rattle.machine.proofs.BagLaws.{has-yes, has-no, fromFirst-has}
 use Rattle.machine.proofs.Invariant.{part, over, total, Good, OneMore}
 use Rattle.machine.proofs.OverflowLaws.{copies-bagIn, copies-overflowIn, bucketOf-read, ascending-overflowIn, below-overflowIn}
-use Rattle.machine.proofs.Members.{cond-choice, front-removed, front-swapped}
+use Rattle.machine.proofs.Members.{cond-choice, frontList-removed, frontList-swapped}
 use Rattle.machine.proofs.Changes.{FrontWritten, OneOver, front-written, back-left}
 
 pub data Deleted (L : Layout) (B f x : ℕ) (img : List ℕ) : Type 0 where
@@ -82,7 +82,7 @@ module _ (L : Layout) (fits : Fits64 L) (B f x : ℕ) (img : List ℕ) (good : G
   )
     where
       w : FrontWritten L B f (removed x xs) img thin
-      w = front-written L fits B f h img good (removed x xs) (front-removed L x xs list c) (λ y o. absurd (omega (arith, none y, o)))
+      w = front-written L fits B f h img good (removed x xs) (frontList-removed L x xs list c) (λ y o. absurd (omega (arith, none y, o)))
 
   -- a list of all of f's overflow, ascending
   record Overflows (vs : List ℕ) : Type 0 where
@@ -137,7 +137,7 @@ module _ (L : Layout) (fits : Fits64 L) (B f x : ℕ) (img : List ℕ) (good : G
 
       w : FrontWritten L B f (added v (removed x xs)) img (mid v)
       w = front-written L fits B f h img good (added v (removed x xs))
-          (front-swapped L x v xs list c v-key)
+          (frontList-swapped L x v xs list c v-key)
           (λ y o. (omega (arith, short, length-added v (removed x xs)), largest-le y (added v (removed x xs)) (λ z m. members y z o m)))
 
       o : Good L B (without v (mid v)) × OneOver L B f v (without v (mid v)) (mid v)

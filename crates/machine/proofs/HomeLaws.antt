@@ -21,7 +21,7 @@ use Rattle.machine.specs.Checks.{homeInTurn, checkSized}
 use Rattle.machine.specs.Homes.{LeadsHome, AllLeadHome}
 use Rattle.machine.specs.Calls.{checkOf}
 use Rattle.machine.proofs.AcceptedLaws.{was-sound}
-use Rattle.machine.proofs.CheckLaws.{turn-full, front-passed, back-passed, in-turn-passed}
+use Rattle.machine.proofs.CheckLaws.{inTurn-full, front-passed, back-passed, in-turn-passed}
 
 module _ (L : Layout) (B : ℕ) (img : List ℕ) (checked : checkSized L B img ≡ accepted tt) where
   front-order : (f : ℕ) → f < fronts B → T (ascending (inFront L f img))
@@ -36,7 +36,7 @@ module _ (L : Layout) (B : ℕ) (img : List ℕ) (checked : checkSized L B img �
   leads-home j y (some f) e t =
       let l : f < fronts B = home-lt B j (y % 16) f (omega arith) e in
       let b = bucketOf-home B j (y % 16) f (omega arith) e in
-      let turn = turn-full L B img (y / 16) (inFront L f img) (rw (front-passed L B img checked f l) at t) in
+      let turn = inTurn-full L B img (y / 16) (inFront L f img) (rw (front-passed L B img checked f l) at t) in
       record {
         front = f;
         inside = l;

@@ -20,7 +20,7 @@ use Rattle.machine.specs.Images.{frontAt, backAt, inFront, inBack, putFr
 use Rattle.machine.specs.Machine.{takeIn, insertAt, full}
 use Rattle.machine.proofs.Invariant.{Good, OneMore}
 use Rattle.machine.proofs.OverflowLaws.{bucketOf-read, backyard-good, bucketOf-list}
-use Rattle.machine.proofs.Members.{cond-choice, front-added}
+use Rattle.machine.proofs.Members.{cond-choice, frontList-added}
 use Rattle.machine.proofs.StayLaws.{length-rest, top-range, rest-list}
 use Rattle.machine.proofs.Changes.{FrontWritten, OneOver, front-written, back-joined}
 use Rattle.machine.proofs.TakeLaws.{TakesIn, refuses, takes, room-chosen, takeIn-cases, insertAt-room, insertAt-over}
@@ -60,7 +60,7 @@ module _ (L : Layout) (fits : Fits64 L) (B f x : ℕ) (img : List ℕ) (good : G
       }
     where
       w : FrontWritten L B f (added x xs) img (putFront L f (added x xs) img)
-      w = front-written L fits B f h img good (added x xs) (front-added L x xs list k r) (λ y o. absurd (omega (arith, good .turn f y h o .0)))
+      w = front-written L fits B f h img good (added x xs) (frontList-added L x xs list k r) (λ y o. absurd (omega (arith, good .turn f y h o .0)))
 
   -- what goes, and what remains in front
   abbrev top : ℕ

@@ -1,5 +1,5 @@
 -- A bucket's list after a member joined it or left it: it can still stand there, and each of its crumbs is valid.
--- Main results: `front-added`, `front-removed`, `front-swapped`, `back-added`, `back-removed`.
+-- Main results: `frontList-added`, `frontList-removed`, `frontList-swapped`, `backList-added`, `backList-removed`.
 use mathlib.Core.Path.{_≡_, refl}
 use Prim.Native.Nat.{ℕ, _+_, _*_, _%_, _<_}
 use mathlib.Core.Bool.{Bool, true, false, cond}
@@ -54,36 +54,36 @@ module _ (B j : ℕ) where
       either (eqb y z) zs (z ∷ removed y zs) (p .1) (valid-cons z (removed y zs) (p .0) (valid-removed y zs (p .1)))
 
 module _ (L : Layout) where
-  pub front-added : (x : ℕ) (xs : List ℕ) → FrontList L xs → x < keys L → length xs < L .frontSlots → FrontList L (added x xs)
-  front-added x xs l k r = record {
+  pub frontList-added : (x : ℕ) (xs : List ℕ) → FrontList L xs → x < keys L → length xs < L .frontSlots → FrontList L (added x xs)
+  frontList-added x xs l k r = record {
     order = ascending-added x xs (l .order);
     range = below-added (keys L) x xs k (l .range);
     room = omega (arith, length-added x xs);
   }
 
-  pub front-removed : (x : ℕ) (xs : List ℕ) → FrontList L xs → 0 < copies x xs → FrontList L (removed x xs)
-  front-removed x xs l c = record {
+  pub frontList-removed : (x : ℕ) (xs : List ℕ) → FrontList L xs → 0 < copies x xs → FrontList L (removed x xs)
+  frontList-removed x xs l c = record {
     order = ascending-removed x xs (l .order);
     range = below-removed (keys L) x xs (l .range);
     room = omega (arith, length-removed x xs c, l .room);
   }
 
   -- x gone, and y in its place
-  pub front-swapped : (x y : ℕ) (xs : List ℕ) → FrontList L xs → 0 < copies x xs → y < keys L → FrontList L (added y (removed x xs))
-  front-swapped x y xs l c k =
-      front-added y (removed x xs) (front-removed x xs l c) k (omega (arith, length-removed x xs c, l .room))
+  pub frontList-swapped : (x y : ℕ) (xs : List ℕ) → FrontList L xs → 0 < copies x xs → y < keys L → FrontList L (added y (removed x xs))
+  frontList-swapped x y xs l c k =
+      frontList-added y (removed x xs) (frontList-removed x xs l c) k (omega (arith, length-removed x xs c, l .room))
 
   module _ (B f v : ℕ) (t : Bool) (ys : List ℕ) (l : BackList L B (bucketOf t B f) ys) where
-    pub back-added : f < fronts B → v < keys L → length ys < L .backSlots → BackList L B (bucketOf t B f) (added (v * 16 + crumbOf t f) ys)
-    back-added h k r = record {
+    pub backList-added : f < fronts B → v < keys L → length ys < L .backSlots → BackList L B (bucketOf t B f) (added (v * 16 + crumbOf t f) ys)
+    backList-added h k r = record {
       order = ascending-added (v * 16 + crumbOf t f) ys (l .order);
       range = below-added (keys L * 16) (v * 16 + crumbOf t f) ys (omega (arith, crumbOf-lt t f)) (l .range);
       room = omega (arith, length-added (v * 16 + crumbOf t f) ys);
       crumbs = valid-added B (bucketOf t B f) (v * 16 + crumbOf t f) ys (rw (crumb-back t f v, home-bucketOf t B f h) tt) (l .crumbs);
     }
 
-    pub back-removed : 0 < copies (v * 16 + crumbOf t f) ys → BackList L B (bucketOf t B f) (removed (v * 16 + crumbOf t f) ys)
-    back-removed c = record {
+    pub backList-removed : 0 < copies (v * 16 + crumbOf t f) ys → BackList L B (bucketOf t B f) (removed (v * 16 + crumbOf t f) ys)
+    backList-removed c = record {
       order = ascending-removed (v * 16 + crumbOf t f) ys (l .order);
       range = below-removed (keys L * 16) (v * 16 + crumbOf t f) ys (l .range);
       room = omega (arith, length-removed (v * 16 + crumbOf t f) ys c, l .room);

@@ -1,28 +1,28 @@
 -- How many members there can be: in a bucket at mostMembers L its slots, of a front bucket at mostMembers L its slots and those of two backyard buckets,
 -- on a page at mostMembers L so many a bucket. Main results: front-room, back-room, members-room, run-count, run-whole.
-use mathlib.Core.Path.{_≡_, refl, sym, ap}
-use Prim.Native.Nat.{ℕ, zero, suc, _+_, _*_, _-_, _%_, _/_, _≤_, _<_}
+use mathlib.Core.Path.{_≡_, refl, sym}
+use Prim.Native.Nat.{ℕ, zero, suc, _+_, _*_, _-_, _≤_, _<_}
 use mathlib.Core.Bool.{Bool, true, false, cond}
 use mathlib.Core.List.{List, [], _∷_, map}
 use mathlib.Core.Option.{Option, none, some, Option·map, bind-eq-some-iff}
 use native.Mathlib.Nat.{le-trans, suc-mul}
 use native.Mathlib.Omega.{arith}
 use lib.ListN.{length, length-append, length-map}
-use lib.Dec.{leb, ltb, eqb, leb→le}
+use lib.Dec.{leb, ltb, eqb}
 use borrow.Author.Tests.{le-leb}
 use Rattle.multiset.specs.Multisets.{slotOf}
 use Rattle.crumbmap.specs.Layouts.{Layout, mostMembers}
 use Rattle.crumbmap.specs.CrumbMap.{firstBucket, secondBucket, firstCrumb, secondCrumb}
 use Rattle.crumbmap.specs.Fingerprints.{fingerprint}
-use Rattle.buckets.specs.Buckets.{carrying, slotKeys, frontMembers, backMembers}
-use Rattle.machine.specs.Results.{accepted, andThen, orUnsound}
+use Rattle.buckets.specs.Buckets.{frontMembers, backMembers}
+use Rattle.machine.specs.Results.{accepted, andThen}
 use Rattle.machine.specs.Images.{bucketAt, frontAt, backAt}
 use Rattle.machine.specs.Bags.{addedAll}
 use Rattle.machine.specs.Machine.{backyard, overflow, membersAt}
 use Rattle.machine.specs.Pages.{Run, stopped, prepended, runFrom}
 use Rattle.multiset.specs.Digits.{joined}
 use Rattle.multiset.proofs.DigitLaws.{length-joined-min}
-use Rattle.buckets.proofs.SlotBytes.{given-some}
+use Rattle.buckets.proofs.SlotBytes.{given-some, slotKeys-short}
 use Rattle.buckets.proofs.CarryLaws.{length-carrying}
 use Rattle.machine.proofs.BagLaws.{length-addedAll}
 use Rattle.machine.proofs.AcceptedLaws.{same-answer, was-sound, andThen-accepted}
@@ -36,15 +36,6 @@ some-eq a b e = cc
 module _ (L : Layout) where
   -- ---- one bucket
 
-  slots-room : (slots : ℕ) (b xs : List ℕ) → slotKeys L slots b ≡ some xs → length xs ≤ slots
-  unfolding slotKeys
-  slots-room slots b xs e =
-      let s = (bind-eq-some-iff _ _) .0 e in
-      let g = given-some _ _ xs (s .2) in
-      let h = given-some _ _ xs (g .1) in
-      let q = some-eq _ xs (h .1) in
-      rw (sym q) (le-trans (joined-le _ (s .0) _) (leb→le _ _ (g .0)))
-
   pub front-room : (b xs : List ℕ) → frontMembers L b ≡ some xs → length xs ≤ L .frontSlots
   unfolding frontMembers
   front-room b xs e =
@@ -52,7 +43,7 @@ module _ (L : Layout) where
       let g = given-some _ _ xs (s .2) in
       let h = given-some _ _ xs (g .1) in
       let q = some-eq _ xs (h .1) in
-      rw (sym q) (slots-room (L .frontSlots) b (s .0) (s .1))
+      rw (sym q) (slotKeys-short L (L .frontSlots) b (s .0) (s .1))
 
   pub back-room : (B j : ℕ) (b ys : List ℕ) → backMembers L B j b ≡ some ys → length ys ≤ L .backSlots
   unfolding backMembers
@@ -62,7 +53,7 @@ module _ (L : Layout) where
       let h = given-some _ _ ys (g .1) in
       let k = given-some _ _ ys (h .1) in
       let q = some-eq _ ys (k .1) in
-      rw (sym q) (le-trans (joined-le 16 (s .0) _) (slots-room (L .backSlots) b (s .0) (s .1)))
+      rw (sym q) (le-trans (joined-le 16 (s .0) _) (slotKeys-short L (L .backSlots) b (s .0) (s .1)))
 
   pub frontAt-room : (f : ℕ) (img xs : List ℕ) → frontAt L f img ≡ accepted xs → length xs ≤ L .frontSlots
   unfolding frontAt

@@ -25,7 +25,7 @@ use Rattle.machine.proofs.ImageLaws.{inFront-read}
 use Rattle.machine.proofs.BucketWrites.{length-putFront, frontAt-putFront, backAt-putFront, frontAt-putBack, putFront-put, putFront-putBack}
 use Rattle.machine.proofs.Invariant.{Good}
 use Rattle.machine.proofs.OverflowLaws.{bucketOf-read, backyard-good, bucketOf-list}
-use Rattle.machine.proofs.Members.{cond-choice, front-added, back-added}
+use Rattle.machine.proofs.Members.{cond-choice, frontList-added, backList-added}
 use Rattle.machine.proofs.Changes.{good-front-inside, good-back-inside}
 use Rattle.machine.proofs.TakeLaws.{TakesIn, refuses, takes, takeIn-full, takeIn-on, takeIn-cases, backyard-read, pushAt-read, insertAt-room, insertAt-over}
 use Rattle.machine.proofs.InsertLaws.{Inserted, took, stuck, insert-keeps}
@@ -106,7 +106,7 @@ module _ (L : Layout) (fits : Fits64 L) (B f : ℕ) (h : f < fronts B) where
       spill-room xs r ih =
           rw (insertAt-room L B f x img ws read r, goes-room (L .frontSlots) x xs ws r, stays-room (L .frontSlots) x xs ws r)
           (ih ∙ ap (pushAll L B f (goes (L .frontSlots) xs (added x ws)))
-          (putFront-put L fits f (added x ws) img inside (front-added L x ws list k r) (stays (L .frontSlots) xs (added x ws))))
+          (putFront-put L fits f (added x ws) img inside (frontList-added L x ws list k r) (stays (L .frontSlots) xs (added x ws))))
 
       -- ---- none is left in front
 
@@ -135,7 +135,7 @@ module _ (L : Layout) (fits : Fits64 L) (B f : ℕ) (h : f < fronts B) where
 
           behind-list : BackList L B (bucketOf t B f) behind
           behind-list =
-              back-added L B f most t (ys t) (bucketOf-list L B f img good h t) h (top-range L x ws list k) (rw (cond-choice ys t) at r)
+              backList-added L B f most t (ys t) (bucketOf-list L B f img good h t) h (top-range L x ws list k) (rw (cond-choice ys t) at r)
 
           taken : (old : List ℕ) → takeIn L B f most (ys true, ys false) old ≡ changed (1 + bucketOf t B f) (putBack L B (bucketOf t B f) behind old)
           taken old = rw (cond-choice ys t) at (takeIn-on L B f most (ys true) (ys false) old t e r)
@@ -184,7 +184,7 @@ module _ (L : Layout) (fits : Fits64 L) (B f : ℕ) (h : f < fronts B) where
         (bucketOf-list L B f img good h true .room) (bucketOf-list L B f img good h false .room))
     | no m ↦
         let r : length ws < L .frontSlots = omega arith in
-        let w : FrontList L (added x ws) = front-added L x ws (list img good x ws read (b .0)) (b .0) r in
+        let w : FrontList L (added x ws) = frontList-added L x ws (list img good x ws read (b .0)) (b .0) r in
         spill-room img good x ws read (b .0) xs r
         (inserts-spill xs (added x ws) (putFront L f (added x ws) img) (good-after img good x ws read (b .0) (insertAt-room L B f x img ws read r))
         (frontAt-putFront L fits f (added x ws) img (inside img good) w) (putFront-put L fits f (added x ws) img (inside img good) w (added x ws)) (b .1))

@@ -15,7 +15,7 @@ use Rattle.multiset.proofs.OrderLaws.{largest-added-most, added-last, ascending
 use Rattle.crumbmap.specs.Layouts.{Layout, keys}
 use Rattle.buckets.specs.Buckets.{FrontList}
 use Rattle.machine.specs.Steps.Spills.{stays, goes}
-use Rattle.machine.proofs.Members.{front-added}
+use Rattle.machine.proofs.Members.{frontList-added}
 
 -- ---- what stays and what goes, key by key
 
@@ -142,7 +142,7 @@ module _ (L : Layout) where
     | yes l ↦ rw (stays-full (L .frontSlots) x xs ws l) (stays-list xs (removed (largest (added x ws)) (added x ws)) (rest-list x ws list (b .0)) (b .1))
     | no m ↦
         let l : length ws < L .frontSlots = omega arith in
-        rw (stays-room (L .frontSlots) x xs ws l) (stays-list xs (added x ws) (front-added L x ws list (b .0) l) (b .1))
+        rw (stays-room (L .frontSlots) x xs ws l) (stays-list xs (added x ws) (frontList-added L x ws list (b .0) l) (b .1))
   ]
 
   -- and what goes has keys in range
@@ -154,5 +154,5 @@ module _ (L : Layout) where
         (top-range x ws list (b .0), goes-range xs (removed (largest (added x ws)) (added x ws)) (rest-list x ws list (b .0)) (b .1))
     | no m ↦
         let l : length ws < L .frontSlots = omega arith in
-        rw (goes-room (L .frontSlots) x xs ws l) (goes-range xs (added x ws) (front-added L x ws list (b .0) l) (b .1))
+        rw (goes-room (L .frontSlots) x xs ws l) (goes-range xs (added x ws) (frontList-added L x ws list (b .0) l) (b .1))
   ]

@@ -10,8 +10,8 @@ use native.Mathlib.Nat.{sub-zero}
 use native.Mathlib.Omega.{arith}
 use lib.ListN.{length, getD}
 use lib.Dec.{eqb}
-use Rattle.multiset.specs.Multisets.{copies, Below}
-use Rattle.multiset.proofs.MultisetLaws.{hit-same, copies-cons}
+use Rattle.multiset.specs.Multisets.{Below}
+use Rattle.multiset.proofs.MultisetLaws.{copies-none}
 use Rattle.crumbmap.specs.Layouts.{Layout, keys, fronts, backyards}
 use Rattle.buckets.specs.Buckets.{Fits64}
 use Rattle.machine.specs.Results.{Result, accepted, refused, andThen}
@@ -56,12 +56,8 @@ module _ (L : Layout) (B n f : ℕ) (a b img : List ℕ) where
 abbrev Untouched : Layout → ℕ → ℕ → List ℕ → Type 0
 Untouched L B f img = (e y : ℕ) → f ≤ e → e < fronts B → total L B e y img ≡ 0
 
-none-there : (xs : List ℕ) → ((y : ℕ) → copies y xs ≡ 0) → xs ≡ []
-none-there [] n = refl
-none-there (x ∷ xs) n = absurd (omega (arith, n x, copies-cons x x xs, hit-same x))
-
 untouched-front : (L : Layout) (B f : ℕ) (img : List ℕ) → f < fronts B → Untouched L B f img → inFront L f img ≡ []
-untouched-front L B f img h u = none-there (inFront L f img) (λ y. omega (arith, u f y (omega arith) h))
+untouched-front L B f img h u = copies-none (inFront L f img) (λ y. omega (arith, u f y (omega arith) h))
 
 -- a target that took front bucket f of both is good, and untouched past f
 both-good : {L : Layout} → Fits64 L → {B f : ℕ} (a b img : List ℕ) {now : List ℕ} → f < fronts B → Below (keys L) (membersIn L B f a)

@@ -20,9 +20,9 @@ use Rattle.minifilter.specs.Steps.Readings.{readingOf}
 use Rattle.minifilter.specs.Steps.Slots.{slotList, marked}
 use Rattle.minifilter.specs.declared.Reading.{Reading}
 use Rattle.minifilter.specs.declared.Reading.the-variants.{Members, Unsound}
-use Rattle.multiset.proofs.DigitLaws.{length-joined}
+use Rattle.multiset.proofs.DigitLaws.{length-joined, length-joined-min}
 use Rattle.crumbmap.proofs.MarkLaws.{ones-in}
-use Rattle.buckets.proofs.PieceLaws.{allZero-split, spread-drop, length-joined-min}
+use Rattle.buckets.proofs.PieceLaws.{allZero-split, spread-drop}
 use Rattle.buckets.proofs.SlotBytes.{slotKeys-short}
 use Rattle.minifilter.proofs.PassLaws.{length-slotCrumbs}
 use Rattle.minifilter.proofs.ReadLaws.{countIf, reading-given}

@@ -19,7 +19,7 @@ use Rattle.minifilter.specs.Steps.Readings.{SoundFront, SoundBack, Sound
 use Rattle.minifilter.specs.Steps.Slots.{slotsOf, endOf, bitsOf, wordOf, tagAt, crumbAt, minisOf, spanOf, lowAt}
 use Rattle.multiset.proofs.RankLaws.{below-le-length}
 use Rattle.multiset.proofs.DigitLaws.{length-highs}
-use Rattle.buckets.proofs.ElementLaws.{below-at}
+use Rattle.buckets.proofs.ElementLaws.{below-getD}
 use Rattle.buckets.proofs.HighLaws.{getD-highs, highs-highs, padded-low, low-parts, crumb-parts, key-parts}
 use Rattle.buckets.proofs.WordLaws.{Coded, coded-run, minisIn-coded, ones-coded, run-at}
 use Rattle.buckets.proofs.SlotBytes.{tags-pos}
@@ -124,7 +124,7 @@ memberKey false x = x
 memberKey true y = y / 16
 
 crumb-lt : (L : Layout) (b : List ℕ) (i : ℕ) → crumbAt L b i < 16
-crumb-lt L b i = below-at 16 i (crumbsIn L b) (lit< tt) (below-crumbsIn L b)
+crumb-lt L b i = below-getD 16 i (crumbsIn L b) (lit< tt) (below-crumbsIn L b)
 
 module _ (L : Layout) (b ys : List ℕ) (h : Held L true b ys) (i : ℕ) (l : i < length ys) where
   pub held-crumb : crumbAt L b i ≡ getD ys i 0 % 16

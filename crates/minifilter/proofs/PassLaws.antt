@@ -21,10 +21,9 @@ use Rattle.buckets.specs.Buckets.{Fits64}
 use Rattle.words.specs.Steps.Wide.{wordBytes1}
 use Rattle.minifilter.specs.Steps.Slots.{slotsOf, slotCrumbs, memberOf, withCrumbs, headOf, bitsOf, zerosOf, wordOf, tagsOf, tagAt, minisOf, slotMinis, slotMembers}
 use Rattle.multiset.proofs.RankLaws.{below-smaller, below-other}
-use Rattle.multiset.proofs.DigitLaws.{length-joined}
+use Rattle.multiset.proofs.DigitLaws.{length-joined, length-joined-min}
 use Rattle.buckets.proofs.WordLaws.{Run, coded-minisIn, minisIn-run}
 use Rattle.buckets.proofs.ElementLaws.{grouped-at, joined-at}
-use Rattle.buckets.proofs.PieceLaws.{length-joined-min}
 use Rattle.buckets.proofs.GapLaws.{gaps, gaps-word, gap-place, gap-next, gap-below, gap-some}
 use Rattle.buckets.proofs.SlotBytes.{length-tagsIn}
 use Rattle.buckets.proofs.BucketLaws.{length-crumbsIn}

@@ -67,6 +67,11 @@ pub copies-one : (z x : ℕ) → copies z (x ∷ []) ≡ hit z x
 unfolding copies
 copies-one z x = copies-cons z x [] ∙ add-zero (hit z x)
 
+-- a list without any member
+pub copies-none : (xs : List ℕ) → ((z : ℕ) → copies z xs ≡ 0) → xs ≡ []
+copies-none [] h = refl
+copies-none (x ∷ xs) h = absurd (omega (arith, h x, copies-cons x x xs, hit-same x))
+
 -- ---- copies and lengths
 
 pub copies-append : (z : ℕ) (xs ys : List ℕ) → copies z (xs ++ ys) ≡ copies z xs + copies z ys

@@ -18,7 +18,8 @@ use Rattle.search.specs.Steps.Searches.{Scanned}
 use Rattle.multiset.proofs.RankLaws.{below-le-length, below-suc}
 use Rattle.multiset.proofs.SlotLaws.{slot-below, slot-above, holds-copy}
 use Rattle.multiset.proofs.DigitLaws.{ascending-highs, length-highs}
-use Rattle.buckets.proofs.HighLaws.{getD-highs, highs-from, highs-past, parts-lt, parts-le, parts-high}
+use Rattle.crumbmap.proofs.FingerprintLaws.{parts-high}
+use Rattle.buckets.proofs.HighLaws.{getD-highs, highs-from, highs-past, parts-lt, parts-le}
 use Rattle.minifilter.proofs.HeldLaws.{Held, span-pos}
 
 -- a slot more that holds less than `low`

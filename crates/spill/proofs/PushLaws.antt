@@ -21,19 +21,15 @@ use Rattle.machine.specs.Images.{bucketAt, backAt, inBack, putFront, putBack}
 use Rattle.machine.specs.Machine.{taker, takeIn}
 use Rattle.machine.specs.Steps.Spills.{pushAll}
 use Rattle.machine.proofs.BucketWrites.{length-putFront, length-putBack, bucketAt-putBack, bucketAt-putBack-other}
-use Rattle.machine.proofs.Members.{inBack-choice, back-added}
+use Rattle.machine.proofs.Members.{inBack-choice, backList-added}
 use Rattle.machine.proofs.TakeLaws.{pushAt-read}
 use Rattle.machine.proofs.SpillLaws.{pushAll-one}
-use Rattle.image.specs.Steps.ImageReads.{Whole, BackIn, BackRead}
-use Rattle.image.proofs.ImageReadLaws.{front-in, both-accepts, chosen-read, chosen-way}
+use Rattle.image.specs.Steps.ImageReads.{BackIn, BackRead}
+use Rattle.image.proofs.ImageReadLaws.{whole-alike, front-in, both-accepts, chosen-read, chosen-way}
 use Rattle.image.proofs.ImageWriteLaws.{back-kept}
 use Rattle.insertion.proofs.TakerLaws.{taker-room}
 use Rattle.listing.specs.Steps.Listings.{BackyardRead}
 use Rattle.spill.specs.Steps.Settling.{Joinable}
-
--- an image of size B with as many bytes
-pub whole-alike : {B : ℕ} {img now : List ℕ} → length now ≡ length img → Whole B img → Whole B now
-whole-alike e w = record { long = e ∙ w .long; some = w .some; small = w .small }
 
 -- ---- both backyard buckets after a write
 
@@ -149,5 +145,5 @@ module _ {L : Layout} {B f n0 n1 : ℕ} {img : List ℕ} (h : Holding L B f img 
     push-keeps fits k =
         let here : BackRead L B (bucketOf t B f) img = chosen-read (h .read .both) t in
         let ys : List ℕ = inBack L B (bucketOf t B f) img in
-        let list = back-added L B f v t ys (here .list) (h .read .within .front) k (taker-left t e) in
+        let list = backList-added L B f v t ys (here .list) (h .read .within .front) k (taker-left t e) in
         rw (leads .bucket, leads .crumb) (backyard-put fits (here .within) (added (v * 16 + crumbOf t f) ys) list (h .read))

@@ -65,9 +65,9 @@ unfolding over
 over-set i v xs h = sets-eq (v ∷ []) xs i (omega arith) ∙ append-assoc (take i xs) (v ∷ []) (drop (i + 1) xs) ∙ rw (drop-drop 1 i xs)
 
 -- nothing written
-pub over-none : (at : ℕ) (xs : List ℕ) → xs ≡ over at [] xs
+pub over-nothing : (at : ℕ) (xs : List ℕ) → xs ≡ over at [] xs
 unfolding over
-over-none at xs = sym (take-append-drop at xs)
+over-nothing at xs = sym (take-append-drop at xs)
 
 -- ---- digits and lines
 

@@ -1,17 +1,11 @@
--- The word as one u64 (layout 1): a bit at a place of it, and its 8 bytes. Main results: `one-shl`, `word-sum`.
-use mathlib.Core.Path.{_≡_, refl, _∙_}
-use Prim.Native.Nat.{ℕ, zero, suc, _+_, _*_, _%_, _^_, _<_}
+-- The word as one u64 (layout 1): the 8 bytes of it. Main result: `word-sum`.
+use mathlib.Core.Path.{_≡_, refl}
+use Prim.Native.Nat.{ℕ, zero, suc, _+_, _*_}
 use mathlib.Core.List.{List, [], _∷_}
-use native.Mathlib.Nat.{one-mul}
 use native.Mathlib.Omega.{arith}
 use lib.ListN.{take, drop, getD}
 use lib.Seq.{take-nil}
-use lib.Pow.{shl-exact}
-use lib.Dec.{lit<}
 use Rattle.multiset.specs.Digits.{value}
-
-pub one-shl : (k : ℕ) → k < 64 → (1 * 2 ^ k) % 2 ^ 64 ≡ 2 ^ k
-one-shl k h = shl-exact 1 k 64 (lit< tt) (omega arith) ∙ one-mul (2 ^ k)
 
 value-from : (k n : ℕ) (l : List ℕ) → value 256 (take (suc n) (drop k l)) ≡ getD l k 0 + 256 * value 256 (take n (drop (suc k) l))
 unfolding value

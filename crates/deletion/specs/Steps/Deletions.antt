@@ -16,7 +16,7 @@ use Rattle.search.specs.declared.Carried.{Carried}
 use Rattle.search.specs.declared.Carried.the-variants as K
 use Rattle.machine.specs.Images.{inFront, inBack, putFront, putBack}
 use Rattle.machine.specs.Bags.{fromFirst}
-use Rattle.machine.specs.Machine.{changed, bagIn, overflowIn, deleteAt}
+use Rattle.machine.specs.Machine.{changed, bagIn, deleteAt}
 use Rattle.answers.specs.Answers.{refusal, Changes}
 use Rattle.answers.specs.declared.ChangeResult.{ChangeResult}
 use Rattle.image.specs.declared.Target.{Target}

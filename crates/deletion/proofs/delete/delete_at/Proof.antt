@@ -1,5 +1,5 @@
 -- `deletion::delete::delete_at` meets its contract. What the plan says of the machine's delete is what is written.
-use mathlib.Core.Path.{_≡_, refl}
+use mathlib.Core.Path.{refl}
 use borrow.Author.Needs.{needs}
 use Rattle.crumbmap.specs.Layouts.{layout1}
 use Rattle.answers.proofs.ChangeLaws.{changes, change-refused}

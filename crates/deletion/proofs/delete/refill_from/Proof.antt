@@ -1,7 +1,6 @@
 -- `deletion::delete::refill_from` meets its contract. The front bucket's change keeps the backyard bucket (`stands-kept`), from which the member then
 -- leaves.
 use borrow.Author.Needs.{needs}
-use Rattle.crumbmap.specs.Layouts.{layout1}
 use Rattle.buckets.proofs.BucketLaws.{fits1}
 use Rattle.deletion.proofs.DeleteSteps.{stands-kept, refilled-put}
 use Rattle.deletion.proofs.delete.refill_from.Statement.{statement}

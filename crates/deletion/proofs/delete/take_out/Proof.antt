@@ -1,7 +1,7 @@
 -- `deletion::delete::take_out` meets its contract. One copy leaves the backyard bucket, from the slot behind the members below it.
 use mathlib.Core.Path.{refl}
 use borrow.Author.Needs.{needs}
-use Rattle.image.proofs.ImageReadLaws.{below-at}
+use Rattle.image.proofs.ImageReadLaws.{rank-at}
 use Rattle.deletion.specs.Steps.Deletions.{without}
 use Rattle.deletion.proofs.delete.take_out.Statement.{statement}
 use Rattle.deletion.proofs.delete.take_out.Tie as tie
@@ -9,7 +9,7 @@ use Rattle.deletion.proofs.delete.take_out.Tie as tie
 remove-back-at-requires : tie.Need-remove-back-at-requires
 remove-back-at-requires c κs =
     let p = c .before .before .before .before .before .before .pre in
-    (p .back, below-at (p .back .list .order) (p .slot) (p .there))
+    (p .back, rank-at (p .back .list .order) (p .slot) (p .there))
 
 returns : tie.Need-returns
 unfolding without

@@ -12,7 +12,7 @@ use Rattle.crumbmap.specs.Layouts.{layout1}
 use Rattle.machine.specs.Images.{inFront}
 use Rattle.machine.specs.Machine.{deleteAt}
 use Rattle.image.specs.Steps.ImageReads.{At, FrontRead}
-use Rattle.image.proofs.ImageReadLaws.{front-in, front-read, below-at, front-full, front-unsound}
+use Rattle.image.proofs.ImageReadLaws.{front-in, front-told, rank-at, front-full, front-unsound}
 use Rattle.deletion.proofs.DeleteSteps.{delete-short}
 use Rattle.deletion.proofs.plan.plan.Statement.{statement}
 use Rattle.deletion.proofs.plan.plan.Tie as tie
@@ -40,7 +40,7 @@ front : (c : tie.After-known-told) →
     × (c .before .n .given .0 .1 .0 ≡ below (start (read c) .args .target .key) (members c))
 front c =
     let a = start (read c) .args in
-    front-read layout1 (a .target .front .0) (a .target .key) (a .image .now) (read c .read-front-at .ensures) (c .before .n .given .1)
+    front-told layout1 (a .target .front .0) (a .target .key) (a .image .now) (read c .read-front-at .ensures) (c .before .n .given .1)
 
 -- whether a copy stands in front
 near : (c : tie.After-holds-front) → c .holds-front .result ≡ ltb 0 (copies (start (read (sound c)) .args .target .key) (members (sound c)))
@@ -51,7 +51,7 @@ there : (c : tie.Else1) → 0 < copies (start (read (sound (tested c))) .args .t
 there c = ltb-true _ _ (sym (near (tested c)) ∙ not-false _ (c .if1 .left))
 
 here : (c : tie.Else1) → let k = sound (tested c) in At (start (read k) .args .target .key) (k .before .n .given .0 .1 .0) (members k)
-here c = let r = front (sound (tested c)) in below-at (r .0 .list .order) (r .2) (there c)
+here c = let r = front (sound (tested c)) in rank-at (r .0 .list .order) (r .2) (there c)
 
 read-front-at-requires : tie.Need-read-front-at-requires
 read-front-at-requires c κs = let p = c .before .before .pre in (front-in (p .within), p .key)

@@ -11,7 +11,7 @@ use Rattle.multiset.proofs.SlotLaws.{below-without, below-past}
 use Rattle.crumbmap.specs.Layouts.{layout1}
 use Rattle.machine.specs.Results.{accepted, refused}
 use Rattle.machine.specs.Images.{frontAt, inFront}
-use Rattle.image.proofs.ImageReadLaws.{front-read, front-unsound}
+use Rattle.image.proofs.ImageReadLaws.{front-told, front-unsound}
 use Rattle.deletion.proofs.plan.rank_without.Statement.{statement}
 use Rattle.deletion.proofs.plan.rank_without.Tie as tie
 
@@ -33,7 +33,7 @@ members s = inFront layout1 (s .args .front .0) (s .args .image .now)
 rank : (c : tie.After-known-told) → let s = start (reading (ranked c)) in c .before .below .given .0 .1 .0 ≡ below (s .args .key) (members s)
 rank c =
     let a = start (reading (ranked c)) .args in
-    front-read layout1 (a .front .0) (a .key) (a .image .now) (ranked c .read-front-at .ensures) (c .before .below .given .1) .2
+    front-told layout1 (a .front .0) (a .key) (a .image .now) (ranked c .read-front-at .ensures) (c .before .below .given .1) .2
 
 -- the copy that leaves is below the key
 past : (c : tie.Then2) →

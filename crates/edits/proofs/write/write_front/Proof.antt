@@ -4,7 +4,7 @@ use native.Mathlib.Omega.{arith}
 use borrow.Author.Needs.{needs}
 use Rattle.crumbmap.specs.Layouts.{layout1}
 use Rattle.edits.proofs.FrontEdits.{word-put}
-use Rattle.edits.proofs.WriteLaws.{front-written}
+use Rattle.edits.proofs.WriteLaws.{frontBytes-written}
 use Rattle.edits.proofs.write.write_front.Statement.{statement}
 use Rattle.edits.proofs.write.write_front.Tie as tie
 
@@ -18,7 +18,7 @@ returns c =
     let xs = s .args .keys .now in
     let tags = done .put-tags .last .0 in
     put .put-word .ensures ∙ word-put b tags 64 (worded .word-for .result) (omega arith) (omega arith)
-    ∙ front-written layout1 refl b xs tags (worded .word-for .result) (s .pre .0) (s .pre .1) (worded .word-for .ensures) (done .put-tags .ensures)
+    ∙ frontBytes-written layout1 refl b xs tags (worded .word-for .result) (s .pre .0) (s .pre .1) (worded .word-for .ensures) (done .put-tags .ensures)
 
 pub write-front-spec : {M : Type 1} → statement M
 write-front-spec =

@@ -8,8 +8,8 @@ use lib.ListN.{length, drop, drop-of-length-le}
 use Rattle.crumbmap.specs.Layouts.{layout1}
 use Rattle.buckets.specs.Buckets.{frontBytes}
 use Rattle.machine.specs.Images.{put, repeated}
-use Rattle.buckets.proofs.BucketLaws.{fits1}
-use Rattle.image.proofs.EmptyLaws.{length-empty-bucket, cleared-more}
+use Rattle.buckets.proofs.BucketLaws.{fits1, length-frontBytes}
+use Rattle.image.proofs.EmptyLaws.{cleared-more}
 use Rattle.image.proofs.fresh.clear_all.Statement.{statement}
 use Rattle.image.proofs.fresh.clear_all.Tie as tie
 
@@ -34,7 +34,7 @@ loop-again c =
       omega arith,
       omega (arith, c .before .before .clear-at .kept .0),
       c .before .before .clear-at .ensures ∙ ap (λ (x : List ℕ). put (l .i) e x) (l .inv .2) ∙ cleared-more (l .i) e
-          (c7 .args .image .now) (length-empty-bucket layout1 fits1),
+          (c7 .args .image .now) (length-frontBytes layout1 fits1 [] (omega arith)),
     )
 
 same-length : tie.Need-same-length Inv-loop μ-loop

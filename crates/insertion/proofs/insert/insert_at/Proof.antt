@@ -1,5 +1,5 @@
 -- `insertion::insert::insert_at` meets its contract. What the plan says of the machine's insert is what is written.
-use mathlib.Core.Path.{_≡_, refl}
+use mathlib.Core.Path.{refl}
 use borrow.Author.Needs.{needs}
 use Rattle.crumbmap.specs.Layouts.{layout1}
 use Rattle.image.specs.Steps.ImageReads.{FrontJoin}

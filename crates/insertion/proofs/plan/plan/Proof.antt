@@ -8,7 +8,7 @@ use Rattle.crumbmap.specs.Layouts.{layout1}
 use Rattle.machine.specs.Images.{inFront}
 use Rattle.machine.specs.Machine.{insertAt}
 use Rattle.image.specs.Steps.ImageReads.{FrontRead}
-use Rattle.image.proofs.ImageReadLaws.{front-in, front-read, front-full, front-unsound}
+use Rattle.image.proofs.ImageReadLaws.{front-in, front-told, front-full, front-unsound}
 use Rattle.insertion.proofs.plan.plan.Statement.{statement}
 use Rattle.insertion.proofs.plan.plan.Tie as tie
 
@@ -26,7 +26,7 @@ front : (c : tie.After-known-told) →
     FrontRead layout1 (t .front .0) (start (read c) .args .image .now) × (length xs ≡ c .before .n .given .0 .0) × (c .before .n .given .0 .1 .0 ≡ below (t .key) xs)
 front c =
     let a = start (read c) .args in
-    front-read layout1 (a .target .front .0) (a .target .key) (a .image .now) (read c .read-front-at .ensures) (c .before .n .given .1)
+    front-told layout1 (a .target .front .0) (a .target .key) (a .image .now) (read c .read-front-at .ensures) (c .before .n .given .1)
 
 read-front-at-requires : tie.Need-read-front-at-requires
 read-front-at-requires c κs = let p = c .before .before .pre in (front-in (p .within), p .key)

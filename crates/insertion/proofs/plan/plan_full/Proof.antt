@@ -1,5 +1,4 @@
 -- `insertion::plan::plan_full` meets its contract. A backyard bucket is unsound, both are full, or the taker of the overflow has a slot left.
-use mathlib.Core.Path.{_≡_, sym}
 use mathlib.Core.Bool.{true, false}
 use borrow.Author.Needs.{needs}
 use Rattle.crumbmap.specs.Layouts.{layout1}

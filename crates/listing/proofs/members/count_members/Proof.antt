@@ -8,8 +8,8 @@ use Rattle.crumbmap.specs.Layouts.{layout1}
 use Rattle.machine.specs.Images.{inFront}
 use Rattle.machine.specs.Machine.{membersAt}
 use Rattle.image.specs.Steps.ImageReads.{FrontRead, Reads}
-use Rattle.image.proofs.ImageReadLaws.{front-in, front-read, front-unsound, both-sound, both-unsound, both-read}
-use Rattle.listing.proofs.ListingLaws.{bag-is, bag-read, count-few, count-full, count-unsound}
+use Rattle.image.proofs.ImageReadLaws.{front-in, front-told, front-unsound, both-sound, both-unsound, both-read}
+use Rattle.listing.proofs.ListingLaws.{bag-is, bag-read, counting-few, counting-full, counting-unsound}
 use Rattle.listing.proofs.members.count_members.Statement.{statement}
 use Rattle.listing.proofs.members.count_members.Tie as tie
 
@@ -37,7 +37,7 @@ front : (c : tie.After-known-told) → let a = start (read c) .args in
     FrontRead layout1 (a .front .0) (a .image .now) × (length (inFront layout1 (a .front .0) (a .image .now)) ≡ c .before .n .given .0 .0)
 front c =
     let a = start (read c) .args in
-    let r = front-read layout1 (a .front .0) 0 (a .image .now) (read c .read-front-at .ensures) (c .before .n .given .1) in
+    let r = front-told layout1 (a .front .0) 0 (a .image .now) (read c .read-front-at .ensures) (c .before .n .given .1) in
     (r .0, r .1)
 
 both : (c : tie.After-known-told3) → let a = start (read (full (sound c))) .args in let g = c .before .a .given .0 in
@@ -59,7 +59,7 @@ returns c =
 returns-2 : tie.Need-returns-2
 returns-2 c =
     let r = front (c .before) in
-    let m = count-few (r .0) (start (read (c .before)) .pre) (omega (arith, r .1)) in
+    let m = counting-few (r .0) (start (read (c .before)) .pre) (omega (arith, r .1)) in
     (m .0, m .1 ∙ r .1)
 
 count-bag-requires : tie.Need-count-bag-requires
@@ -82,7 +82,7 @@ returns-3 : tie.Need-returns-3
 returns-3 c =
     let a = start (read (full (unsound c))) .args in
     let r = front (full (unsound c)) in
-    count-unsound (r .0) (a .size) (omega (arith, r .1))
+    counting-unsound (r .0) (a .size) (omega (arith, r .1))
     (both-unsound layout1 (a .size) (a .front .0) 0 (a .image .now) (unsound c .read-backyard .ensures) (c .before .table .given .1))
 
 returns-4 : tie.Need-returns-4
@@ -90,7 +90,7 @@ returns-4 c =
     let s = start (read (full (sound (counted c)))) in
     let r = front (full (sound (counted c))) in
     let b = both (counted c) in
-    let m = count-full (r .0) (s .pre) (omega (arith, r .1)) (both-read (b .0) (b .1)) in (
+    let m = counting-full (r .0) (s .pre) (omega (arith, r .1)) (both-read (b .0) (b .1)) in (
       m .0,
       omega (
         arith,

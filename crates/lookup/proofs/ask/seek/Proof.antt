@@ -8,7 +8,7 @@ use Rattle.multiset.proofs.RankLaws.{slotOf-some, slotOf-none}
 use Rattle.crumbmap.specs.Layouts.{layout1}
 use Rattle.machine.specs.Images.{inBack}
 use Rattle.image.specs.Steps.ImageReads.{BackRead}
-use Rattle.image.proofs.ImageReadLaws.{back-read, back-unsound}
+use Rattle.image.proofs.ImageReadLaws.{back-told, back-unsound}
 use Rattle.lookup.proofs.ask.seek.Statement.{statement}
 use Rattle.lookup.proofs.ask.seek.Tie as tie
 
@@ -31,7 +31,7 @@ back : (c : tie.After-known-told) → let a = start (read c) .args in let j = a 
     × (c .before .slot .given .0 .1 .0 ≡ below (a .key * 16 + a .way .crumb) (inBack layout1 (a .size) j (a .image .now)))
 back c =
     let a = start (read c) .args in
-    let r = back-read layout1 (a .size) (a .way .bucket .0) (a .key * 16 + a .way .crumb) (a .image .now) (read c .read-back-at .ensures)
+    let r = back-told layout1 (a .size) (a .way .bucket .0) (a .key * 16 + a .way .crumb) (a .image .now) (read c .read-back-at .ensures)
     (c .before .slot .given .1) in
     (r .0, r .2)
 

@@ -6,7 +6,7 @@ use Rattle.machine.specs.Images.{emptyImage}
 use Rattle.machine.specs.Merges.{mergeFrom}
 use Rattle.image.specs.Steps.ImageReads.{Whole}
 use Rattle.spill.specs.Steps.Settling.{reached}
-use Rattle.spill.proofs.PushLaws.{whole-alike}
+use Rattle.image.proofs.ImageReadLaws.{whole-alike}
 use Rattle.merging.proofs.MergeSteps.{fresh-whole, fill-accepted, fill-full}
 use Rattle.merging.proofs.merge.merge_checked.Statement.{statement}
 use Rattle.merging.proofs.merge.merge_checked.Tie as tie

@@ -8,7 +8,8 @@ use lib.ListN.{length, take, drop, length-set}
 use borrow.Author.Needs.{needs}
 use Rattle.crumbmap.specs.Layouts.{layout1, keys}
 use Rattle.crumbmap.specs.Fingerprints.{fingerprint}
-use Rattle.listing.proofs.MergedLists.{mapped-on, mapped-all, below-at}
+use Rattle.multiset.proofs.MultisetLaws.{below-at}
+use Rattle.listing.proofs.MergedLists.{mapped-on, mapped-all}
 use Rattle.paging.proofs.page.number_all.Statement.{statement}
 use Rattle.paging.proofs.page.number_all.Tie as tie
 
@@ -33,7 +34,7 @@ number-of-requires : tie.Need-number-of-requires Inv-loop μ-loop
 number-of-requires c κs =
     let t = c .before .before in
     let s = start t in
-    (s .pre .0, below-at (keys layout1) (s .args .keys .now) (t .loop .i) (s .pre .1) (omega arith))
+    (s .pre .0, below-at (keys layout1) (t .loop .i) (s .args .keys .now) (s .pre .1) (omega arith))
 
 loop-again : tie.Need-loop-again Inv-loop μ-loop
 loop-again c =

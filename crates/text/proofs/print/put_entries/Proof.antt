@@ -6,7 +6,7 @@ use lib.ListN.{length, take}
 use lib.Seq.{take-length}
 use Rattle.text.specs.Texts.{over}
 use Rattle.text.specs.Lines.{entryLines}
-use Rattle.text.proofs.PrintLaws.{over-none, over-more}
+use Rattle.text.proofs.PrintLaws.{over-nothing, over-more}
 use Rattle.text.proofs.print.put_entries.Statement.{statement}
 use Rattle.text.proofs.print.put_entries.Tie as tie
 
@@ -18,7 +18,7 @@ abbrev μ-loop : tie.MeasureT-loop
 
 loop-holds : tie.Need-loop-holds Inv-loop μ-loop
 unfolding entryLines
-loop-holds c = (omega arith, refl, over-none 21 (c .before .before .args .out .now))
+loop-holds c = (omega arith, refl, over-nothing 21 (c .before .before .args .out .now))
 
 loop-again : tie.Need-loop-again Inv-loop μ-loop
 loop-again c =

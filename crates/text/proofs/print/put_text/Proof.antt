@@ -5,7 +5,7 @@ use Prim.Native.Nat.{_≤_, _-_}
 use lib.ListN.{length, take, length-set}
 use lib.Seq.{take-length}
 use Rattle.text.specs.Texts.{over}
-use Rattle.text.proofs.PrintLaws.{over-none, text-more}
+use Rattle.text.proofs.PrintLaws.{over-nothing, text-more}
 use Rattle.text.proofs.print.put_text.Statement.{statement}
 use Rattle.text.proofs.print.put_text.Tie as tie
 
@@ -16,7 +16,7 @@ abbrev μ-loop : tie.MeasureT-loop
 μ-loop text out₀ i₀ out i = length text - i
 
 loop-holds : tie.Need-loop-holds Inv-loop μ-loop
-loop-holds c = (omega arith, refl, over-none 0 (c .args .out .now))
+loop-holds c = (omega arith, refl, over-nothing 0 (c .args .out .now))
 
 loop-again : tie.Need-loop-again Inv-loop μ-loop
 loop-again c =

@@ -7,7 +7,7 @@ use native.Mathlib.Omega.{arith}
 use Rattle.crumbmap.specs.Layouts.{layout1, backyards}
 use Rattle.image.specs.Steps.ImageReads.{BackIn}
 use Rattle.machine.specs.Checks.{unsoundBack}
-use Rattle.image.proofs.ImageReadLaws.{back-in, back-read, back-unsound}
+use Rattle.image.proofs.ImageReadLaws.{back-in, back-told, back-unsound}
 use Rattle.validation.proofs.CheckSteps.{back-on, back-stop, back-end}
 use borrow.Author.Needs.{needs}
 use Rattle.validation.proofs.check.unsound_back.Statement.{statement}
@@ -71,7 +71,7 @@ loop-again c =
     let l = i .before .loop in (
       omega arith,
       back-on layout1 (a .size) (backyards (a .size)) (l .j) (a .image .now) (l .inv .1) (inside i)
-          (back-read layout1 (a .size) (l .j) 0 (a .image .now) (sound c .read-back-at .ensures) (c .enum-told .given .1) .0 .accepts),
+          (back-told layout1 (a .size) (l .j) 0 (a .image .now) (sound c .read-back-at .ensures) (c .enum-told .given .1) .0 .accepts),
     )
 
 returns-2 : tie.Need-returns-2 Inv-loop μ-loop

@@ -6,7 +6,7 @@ use native.Mathlib.Nat.{sub-zero}
 use native.Mathlib.Omega.{arith}
 use Rattle.crumbmap.specs.Layouts.{layout1, fronts}
 use Rattle.machine.specs.Checks.{unsoundFront}
-use Rattle.image.proofs.ImageReadLaws.{front-in, front-read, front-unsound}
+use Rattle.image.proofs.ImageReadLaws.{front-in, front-told, front-unsound}
 use Rattle.validation.proofs.CheckSteps.{front-on, front-stop, front-end}
 use borrow.Author.Needs.{needs}
 use Rattle.validation.proofs.check.unsound_front.Statement.{statement}
@@ -60,7 +60,7 @@ loop-again c =
     let l = i .before .loop in (
       omega arith,
       front-on layout1 (fronts (a .size)) (l .f) (a .image .now) (l .inv .1) (inside i)
-          (front-read layout1 (l .f) 0 (a .image .now) (sound c .read-front-at .ensures) (c .enum-told .given .1) .0 .accepts),
+          (front-told layout1 (l .f) 0 (a .image .now) (sound c .read-front-at .ensures) (c .enum-told .given .1) .0 .accepts),
     )
 
 returns-2 : tie.Need-returns-2 Inv-loop μ-loop
