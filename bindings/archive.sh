@@ -1,6 +1,6 @@
 #!/usr/bin/env bash
-# The archive that programs link, target/staticlib/libcapi.a: proved, compiled, and every function put on a cache line, so that its speed does not
-# depend on where the linker puts it.
+# The archive that programs link, target/staticlib/libcapi.a: proved, compiled, and every function made to start on a cache line, wherever the
+# linker puts it.
 #     archive.sh            builds it
 #     archive.sh FROM TO    does the last step alone, on an archive that another checkout built
 set -euo pipefail

@@ -24,7 +24,7 @@ use Rattle.image.specs.Steps.ImageReads.{Whole}
 use Rattle.image.specs.Steps.Listed.{Listed}
 use Rattle.image.proofs.ListedLaws.{listed-same, listed-joined}
 use Rattle.listing.specs.Steps.Listings.{membersIn, MembersRead}
-use Rattle.paging.specs.Steps.Runs.{entriesIn, Ran, EndSays}
+use Rattle.paging.specs.Steps.PageRuns.{entriesIn, Ran, EndSays}
 use Rattle.paging.specs.declared.RunEnd.{RunEnd}
 use Rattle.paging.specs.declared.RunEnd.the-variants as E
 use Rattle.listing.proofs.ListingLaws.{members-at}

@@ -1,2 +1,2 @@
 -- Inner steps: a page's run of whole buckets.
-pub mod Runs
+pub mod PageRuns

@@ -24,7 +24,7 @@ ghost use Rattle.answers.specs.Answers.{Pages, Writes};
 ghost use Rattle.image.specs.Steps.ImageReads.{Whole};
 ghost use Rattle.image.specs.Steps.Listed.{Listed};
 ghost use Rattle.listing.specs.Steps.Listings.{membersIn, MembersRead};
-ghost use Rattle.paging.specs.Steps.Runs.{entriesIn, Ran, EndSays};
+ghost use Rattle.paging.specs.Steps.PageRuns.{entriesIn, Ran, EndSays};
 
 // The members from front bucket `start` on into `out`: how many, and the next bucket.
 pub fn page(image: &[u8], start: usize, out: &mut [u64]) -> PageResult

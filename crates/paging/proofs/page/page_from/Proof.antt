@@ -4,7 +4,7 @@ use native.Mathlib.Omega.{arith}
 use lib.ListN.{length}
 use borrow.Author.Needs.{needs}
 use Rattle.crumbmap.specs.Layouts.{layout1, fronts}
-use Rattle.paging.specs.Steps.Runs.{Ran}
+use Rattle.paging.specs.Steps.PageRuns.{Ran}
 use Rattle.paging.proofs.PageSteps.{end-next, end-unsound, moves, page-unsound, page-no-room, page-written}
 use Rattle.paging.proofs.page.page_from.Statement.{statement}
 use Rattle.paging.proofs.page.page_from.Tie as tie
