@@ -26,7 +26,7 @@ use Rattle.buckets.proofs.CarryLaws.{copies-carrying, ascending-carrying}
 use Rattle.image.specs.Steps.ImageReads.{BackRead, Reads}
 use Rattle.image.specs.declared.BackReading.{BackReading}
 use Rattle.image.proofs.ImageReadLaws.{both-read}
-use Rattle.deletion.specs.Steps.Deletions.{pickOf, departing, Searched, leastIn, copyIn, Leaves}
+use Rattle.deletion.specs.Steps.Deletions.{pickOf, departing, leastIn, copyIn, Leaves}
 use Rattle.deletion.specs.declared.Departure.{Departure}
 use Rattle.deletion.specs.declared.Leaving.{Leaving}
 use Rattle.deletion.specs.declared.Leaving.the-variants as W
@@ -40,10 +40,6 @@ any z = Unit {0}
 
 abbrev just : ℕ → ℕ → Type 0
 just x z = z ≡ x
-
--- a backyard bucket that a choice leads to can be searched for its crumb
-pub searched : {L : Layout} {t : Bool} {B f x : ℕ} {img : List ℕ} {r : BackReading} → Reads L t B f x img r → Searched L B (r .way) img
-searched s = record { read = rw (s .leads .bucket) (s .read); crumb = s .leads .small }
 
 module _ (L : Layout) (t : Bool) (B f : ℕ) (img : List ℕ) (w : Overflow) (leads : Leads t B f w) where
   offer-list : (ys xs : List ℕ) → T (ascending xs) → ys ≡ inBack L B (bucketOf t B f) img → xs ≡ bagIn L B f t img

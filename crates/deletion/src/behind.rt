@@ -9,12 +9,12 @@ use search::Carried;
 use search::list::first_carrying;
 ghost use mathlib.Core.Path.{_≡_};
 ghost use Rattle.crumbmap.specs.Layouts.{layout1};
-ghost use Rattle.image.specs.Steps.ImageReads.{ReadFor};
-ghost use Rattle.deletion.specs.Steps.Deletions.{Searched, leastIn, copyIn, pickOf};
+ghost use Rattle.image.specs.Steps.ImageReads.{BagRead, ReadFor};
+ghost use Rattle.deletion.specs.Steps.Deletions.{leastIn, copyIn, pickOf};
 
 // The smallest member of First(f) and Second(f), whose buckets were read.
 pub(crate) fn least(image: &[u8], size: usize, a: BackReading, b: BackReading) -> Leaving
-    requires { ⌜ Searched layout1 size (a .way) (now image) × Searched layout1 size (b .way) (now image) ⌝ }
+    requires { ⌜ BagRead layout1 size (a .way) (now image) × BagRead layout1 size (b .way) (now image) ⌝ }
     ensures { λ r. ⌜ r ≡ pickOf (leastIn layout1 size (a .way) (now (image .entry))) (leastIn layout1 size (b .way) (now (image .entry))) (a .members) (b .members) ⌝ }
 {
     let first = least_in(image, size, a);
@@ -53,7 +53,7 @@ fn pick(first: Leaving, second: Leaving, n0: usize, n1: usize) -> Leaving
 
 // The smallest member of one of them: the first in its bucket that carries the crumb.
 fn least_in(image: &[u8], size: usize, reading: BackReading) -> Leaving
-    requires { ⌜ Searched layout1 size (reading .way) (now image) ⌝ }
+    requires { ⌜ BagRead layout1 size (reading .way) (now image) ⌝ }
     ensures { λ r. ⌜ r ≡ leastIn layout1 size (reading .way) (now (image .entry)) ⌝ }
 {
     let way = reading.way;

@@ -24,7 +24,7 @@ use Rattle.machine.specs.Results.{Result, accepted, refused, andThen}
 use Rattle.machine.specs.Images.{sizeOf, sized, frontAt, backAt, inFront, inBack}
 use Rattle.machine.specs.Machine.{backyard}
 use Rattle.machine.proofs.ImageLaws.{sizeOf-some, sizeOf-lengthOf, front-inside, back-inside}
-use Rattle.image.specs.Steps.ImageReads.{sizing, Locates, LocatedIn, Whole, FrontIn, Placed, BackIn, At, FrontRead, BackRead, FrontSays, BackSays, BothRead, Reads, ReadFor, BackyardSays, FrontFull, Exceeds}
+use Rattle.image.specs.Steps.ImageReads.{sizing, Locates, LocatedIn, Whole, FrontIn, Placed, BackIn, At, FrontRead, BackRead, FrontSays, BackSays, BothRead, Reads, ReadFor, BackyardSays, FrontFull, Exceeds, BagRead}
 use Rattle.image.specs.declared.Size.{Size}
 use Rattle.image.specs.declared.Size.the-variants.{Buckets, Wrong}
 use Rattle.image.specs.declared.Target.{Target}
@@ -104,6 +104,10 @@ module _ (L : Layout) (t : Bool) {B f : ℕ} {w : Overflow} (leads : Leads t B f
 
   pub way-unsound : r ≡ R.Unsound → backAt L B (bucketOf t B f) img ≡ refused 3 (fronts B + bucketOf t B f)
   way-unsound e = rw (leads .bucket) at (back-unsound L B (w .bucket .0) (x * 16 + w .crumb) img said e)
+
+-- a backyard bucket that a choice leads to was read: it can be searched for its crumb
+pub bag-read : {L : Layout} {t : Bool} {B f : ℕ} {w : Overflow} {img : List ℕ} → Leads t B f w → BackRead L B (bucketOf t B f) img → BagRead L B w img
+bag-read leads r = record { read = rw (leads .bucket) r; crumb = leads .small }
 
 -- a backyard bucket that was read for f's key was read for that key with its crumb
 pub read-for : {L : Layout} {t : Bool} {B f x : ℕ} {img : List ℕ} {r : BackReading} → Reads L t B f x img r → x < keys L → ReadFor L B x r img

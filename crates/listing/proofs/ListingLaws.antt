@@ -11,7 +11,7 @@ use lib.Dec.{T, ltb}
 use borrow.Author.Tests.{ltb-true, ltb-false, lt-ltb, le-ltb}
 use Rattle.multiset.specs.Multisets.{ascending, Below}
 use Rattle.crumbmap.specs.Layouts.{Layout, keys, fronts, mostBehind, mostMembers}
-use Rattle.crumbmap.specs.CrumbMap.{bucketOf, crumbOf}
+use Rattle.crumbmap.specs.CrumbMap.{crumbOf}
 use Rattle.crumbmap.specs.Steps.Places.{Leads}
 use Rattle.crumbmap.specs.declared.Overflow.{Overflow}
 use Rattle.machine.specs.Results.{accepted, refused, andThen}
@@ -20,11 +20,11 @@ use Rattle.machine.specs.Bags.{addedAll}
 use Rattle.machine.specs.Machine.{backyard, overflow, bagIn, overflowIn, membersAt}
 use Rattle.machine.proofs.BagLaws.{length-addedAll, ascending-addedAll, below-addedAll, addedAll-nil}
 use Rattle.buckets.proofs.CarryLaws.{below-carrying}
-use Rattle.image.specs.Steps.ImageReads.{FrontIn, FrontRead, BackRead, BothRead}
+use Rattle.image.specs.Steps.ImageReads.{FrontIn, FrontRead, BothRead}
 use Rattle.image.specs.Steps.Listed.{Listed}
 use Rattle.image.proofs.ImageReadLaws.{chosen-read, both-accepts}
 use Rattle.image.proofs.ListedLaws.{listed-take, carrying-room, carrying-order}
-use Rattle.listing.specs.Steps.Listings.{Mergeable, Merged, bagAt, behindIn, membersIn, BagRead, MembersRead, CountSays}
+use Rattle.listing.specs.Steps.Listings.{Mergeable, Merged, bagAt, behindIn, membersIn, MembersRead, CountSays}
 use Rattle.listing.specs.declared.MemberCount.{MemberCount}
 use Rattle.listing.specs.declared.MemberCount.the-variants as M
 
@@ -46,9 +46,6 @@ module _ {xs ys a b a' b' : List ℕ} {n m : ℕ} (l : Listed xs a n a') (k : Li
 module _ {t : Bool} {B f : ℕ} {w : Overflow} (leads : Leads t B f w) where
   pub bag-is : (L : Layout) (img : List ℕ) → bagAt L B w img ≡ bagIn L B f t img
   bag-is L img = rw (leads .bucket, leads .crumb)
-
-  pub bag-read : {L : Layout} {img : List ℕ} → BackRead L B (bucketOf t B f) img → BagRead L B w img
-  bag-read r = record { read = rw (leads .bucket) r; crumb = leads .small }
 
   bag-listed : (L : Layout) (img : List ℕ) {old new : List ℕ} {n : ℕ} → Listed (bagAt L B w img) old n new → Listed (bagIn L B f t img) old n new
   bag-listed L img l = rw (bag-is L img) at l

@@ -27,9 +27,9 @@ ghost use lib.ListN.{length};
 ghost use Rattle.crumbmap.specs.Layouts.{layout1, mostBehind, mostMembers};
 ghost use Rattle.machine.specs.Images.{inFront};
 ghost use Rattle.machine.specs.Machine.{overflowIn};
-ghost use Rattle.image.specs.Steps.ImageReads.{FrontIn};
+ghost use Rattle.image.specs.Steps.ImageReads.{FrontIn, BagRead};
 ghost use Rattle.image.specs.Steps.Listed.{Listed};
-ghost use Rattle.listing.specs.Steps.Listings.{bagAt, membersIn, BagRead, BackyardRead, MembersRead, CountSays};
+ghost use Rattle.listing.specs.Steps.Listings.{bagAt, membersIn, BackyardRead, MembersRead, CountSays};
 
 // How many members a front bucket has.
 pub fn count_members(image: &[u8], size: usize, front: Front) -> MemberCount

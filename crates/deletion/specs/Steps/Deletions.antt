@@ -44,12 +44,7 @@ departing w (K.Key v i) = W.Member (record { way = w; slot = i; key = v })
 departing w K.Nothing = W.Nothing
 
 module _ (L : Layout) where
-  -- a backyard bucket was read, to be searched for a crumb
-  pub record Searched (B : ℕ) (w : Overflow) (img : List ℕ) : Type 0 where
-    pub read : BackRead L B (w .bucket .0) img
-    pub crumb : w .crumb < 16
-
-  -- its smallest member with the crumb
+  -- the smallest member of a backyard bucket that carries a crumb
   abbrev pub leastIn : ℕ → Overflow → List ℕ → Leaving
   leastIn B w img = let ys : List ℕ = inBack L B (w .bucket .0) img in departing w (firstOf (w .crumb) ys (carrying (w .crumb) ys))
 

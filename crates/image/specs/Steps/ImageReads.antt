@@ -11,6 +11,7 @@ use Rattle.crumbmap.specs.Layouts.{Layout, keys, fronts, backyards}
 use Rattle.crumbmap.specs.Fingerprints.{frontOf, keyOf}
 use Rattle.crumbmap.specs.CrumbMap.{firstBucket, secondBucket, bucketOf, crumbOf}
 use Rattle.crumbmap.specs.Steps.Places.{Leads}
+use Rattle.crumbmap.specs.declared.Overflow.{Overflow}
 use Rattle.buckets.specs.Buckets.{frontBytes, FrontList, BackList}
 use Rattle.minifilter.specs.Steps.Readings.{SoundFront, SoundBack}
 use Rattle.minifilter.specs.declared.Reading.{Reading}
@@ -112,6 +113,11 @@ module _ (L : Layout) where
     pub read : BackRead B (bucketOf t B f) img
     pub many : length (inBack L B (bucketOf t B f) img) ≡ r .members
     pub rank : r .below ≡ below (x * 16 + crumbOf t f) (inBack L B (bucketOf t B f) img)
+
+  -- the backyard bucket that w names was read, to be searched for the crumb of w
+  pub record BagRead (B : ℕ) (w : Overflow) (img : List ℕ) : Type 0 where
+    pub read : BackRead B (w .bucket .0) img
+    pub crumb : w .crumb < 16
 
   -- a backyard bucket was read for key x with a crumb that it may carry there
   pub record ReadFor (B x : ℕ) (r : BackReading) (img : List ℕ) : Type 0 where

@@ -1,6 +1,6 @@
 -- What listing the members of a front bucket asks and says: those in front with those behind it, and lists that are merged.
 use mathlib.Core.Path.{_≡_}
-use Prim.Native.Nat.{ℕ, _+_, _≤_, _<_}
+use Prim.Native.Nat.{ℕ, _+_, _≤_}
 use mathlib.Core.Bool.{Bool, true, false, cond}
 use mathlib.Core.List.{List, [], _∷_, _++_}
 use lib.ListN.{length, drop}
@@ -13,7 +13,7 @@ use Rattle.machine.specs.Results.{refused}
 use Rattle.machine.specs.Images.{inFront, inBack}
 use Rattle.machine.specs.Bags.{addedAll}
 use Rattle.machine.specs.Machine.{overflowIn, membersAt}
-use Rattle.image.specs.Steps.ImageReads.{FrontIn, FrontRead, BackRead, BothRead}
+use Rattle.image.specs.Steps.ImageReads.{FrontIn, FrontRead, BothRead}
 use Rattle.listing.specs.declared.MemberCount.{MemberCount}
 use Rattle.listing.specs.declared.MemberCount.the-variants as M
 
@@ -25,13 +25,9 @@ module _ (L : Layout) where
   unfoldable pub membersIn : ℕ → ℕ → List ℕ → List ℕ
   membersIn B f img = addedAll (inFront L f img) (behindIn B f img)
 
-  -- the keys that carry a crumb in a backyard bucket, which is where a choice leads to; and that bucket was read
+  -- the keys that carry a crumb in a backyard bucket, which is where a choice leads to
   abbrev pub bagAt : ℕ → Overflow → List ℕ → List ℕ
   bagAt B w img = carrying (w .crumb) (inBack L B (w .bucket .0) img)
-
-  pub record BagRead (B : ℕ) (w : Overflow) (img : List ℕ) : Type 0 where
-    pub read : BackRead L B (w .bucket .0) img
-    pub crumb : w .crumb < 16
 
   -- both backyard buckets of front bucket f were read
   pub record BackyardRead (B f : ℕ) (img : List ℕ) : Type 0 where

@@ -3,8 +3,8 @@ use mathlib.Core.Bool.{true, false}
 use borrow.Author.Needs.{needs}
 use Rattle.crumbmap.specs.Layouts.{layout1}
 use Rattle.image.specs.Steps.ImageReads.{Reads}
-use Rattle.image.proofs.ImageReadLaws.{at-copies, both-read, both-sound, both-unsound}
-use Rattle.deletion.proofs.LeavingLaws.{searched, least-member, least-nothing}
+use Rattle.image.proofs.ImageReadLaws.{at-copies, both-read, both-sound, both-unsound, bag-read}
+use Rattle.deletion.proofs.LeavingLaws.{least-member, least-nothing}
 use Rattle.deletion.proofs.DeleteSteps.{refill-unsound, refill-nothing, refill-least}
 use Rattle.deletion.proofs.plan.plan_refill.Statement.{statement}
 use Rattle.deletion.proofs.plan.plan_refill.Tie as tie
@@ -35,7 +35,7 @@ read-backyard-requires : tie.Need-read-backyard-requires
 read-backyard-requires c κs = let p = c .before .before .before .pre .placed in (p .within, c .ways-of .ensures, p .key)
 
 least-requires : tie.Need-least-requires
-least-requires c κs = (searched (both c .0), searched (both c .1))
+least-requires c κs = let r = both c in (bag-read (r .0 .leads) (r .0 .read), bag-read (r .1 .leads) (r .1 .read))
 
 rank-without-requires : tie.Need-rank-without-requires
 rank-without-requires c κs =

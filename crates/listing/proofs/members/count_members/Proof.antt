@@ -8,8 +8,8 @@ use Rattle.crumbmap.specs.Layouts.{layout1}
 use Rattle.machine.specs.Images.{inFront}
 use Rattle.machine.specs.Machine.{membersAt}
 use Rattle.image.specs.Steps.ImageReads.{FrontRead, Reads}
-use Rattle.image.proofs.ImageReadLaws.{front-in, front-told, front-unsound, both-sound, both-unsound, both-read}
-use Rattle.listing.proofs.ListingLaws.{bag-is, bag-read, counting-few, counting-full, counting-unsound}
+use Rattle.image.proofs.ImageReadLaws.{front-in, front-told, front-unsound, both-sound, both-unsound, both-read, bag-read}
+use Rattle.listing.proofs.ListingLaws.{bag-is, counting-few, counting-full, counting-unsound}
 use Rattle.listing.proofs.members.count_members.Statement.{statement}
 use Rattle.listing.proofs.members.count_members.Tie as tie
 

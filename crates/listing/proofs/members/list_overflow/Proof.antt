@@ -6,10 +6,10 @@ use native.Mathlib.Omega.{arith}
 use borrow.Author.Needs.{needs}
 use Rattle.crumbmap.specs.Layouts.{layout1}
 use Rattle.machine.specs.Machine.{overflowIn}
-use Rattle.image.proofs.ImageReadLaws.{chosen-read}
+use Rattle.image.proofs.ImageReadLaws.{chosen-read, bag-read}
 use Rattle.image.proofs.ListedLaws.{listed-fits, listed-length}
 use Rattle.image.specs.Steps.Listed.{Listed}
-use Rattle.listing.proofs.ListingLaws.{bag-read, overflow-room, bags-mergeable, bags-merged}
+use Rattle.listing.proofs.ListingLaws.{overflow-room, bags-mergeable, bags-merged}
 use Rattle.listing.proofs.members.list_overflow.Statement.{statement}
 use Rattle.listing.proofs.members.list_overflow.Tie as tie
 
