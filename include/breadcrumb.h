@@ -38,7 +38,8 @@ enum {
     BCF_ABSENT = 5,         /* delete: no such member */
     BCF_PAST_THE_END = 6,   /* page: start is above F */
     BCF_DOES_NOT_FIT = 7,   /* page: bucket start does not fit into the output */
-    BCF_EARLY = 8           /* check, merge: a backyard member before its turn: BCF_TABLE_NUMBER */
+    BCF_EARLY = 8,          /* check, merge: a backyard member before its turn: BCF_TABLE_NUMBER */
+    BCF_DESCENDING = 10     /* row: an entry's front bucket is below that of the entry before it */
 };
 
 #define BCF_NUMBER(answer) ((unsigned)((uint64_t)(answer) >> 56))
@@ -72,6 +73,18 @@ enum { BCF_NONE = 0, BCF_FRONT = 1, BCF_FIRST = 2, BCF_SECOND = 3 };
 #define BCF_ASK_READS(answer) ((unsigned)(BCF_VALUE(answer) % 16))
 #define BCF_ASK_PLACE(answer) ((unsigned)(BCF_VALUE(answer) / 16 % 16))
 #define BCF_ASK_SLOT(answer) ((unsigned)(BCF_VALUE(answer) / 256))
+
+/* An ask in a row. An accepted row keeps the hash and sets reads, place and slot to what a lone
+ * ask gives, the slot to 0 where there is none. It leaves copies alone. */
+typedef struct {
+    uint64_t hash;
+    uint32_t reads, place, slot, copies;
+} bcf_entry;
+
+/* Asks for the hash of each of `row_length` entries. Front buckets must not descend from entry to
+ * entry; they do not in a row that is sorted by hash. Neighbours with the same front bucket share
+ * their reads. Value: the total, the sum over such groups of the greatest reads in the group. */
+uint64_t bcf_row(const uint8_t *image, size_t length, bcf_entry *row, size_t row_length);
 
 /* The copies of the fingerprint, and the buckets read. */
 uint64_t bcf_count(const uint8_t *image, size_t length, uint64_t hash);

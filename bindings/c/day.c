@@ -1,6 +1,7 @@
 /*
  * A day of readings from C: 96 quarter hours of 20 houses are filed, asked for, taken out and
- * merged with another day. Prints the same as the example in Rust.
+ * merged with another day, and a house's day is asked for in one row. Prints the same as the
+ * example in Rust.
  */
 #include "breadcrumb.h"
 
@@ -59,6 +60,33 @@ static void list(const char *name, const uint8_t *image)
     printf("%s: %" PRIu64 " members on %d pages, the last %" PRIu64 "\n", name, members, pages, last);
 }
 
+/* Entries in the order of their hashes are in the order of their front buckets. */
+static int by_hash(const void *left, const void *right)
+{
+    uint64_t x = ((const bcf_entry *)left)->hash, y = ((const bcf_entry *)right)->hash;
+    return (x > y) - (x < y);
+}
+
+/* All quarter hours of a house in one row. */
+static void ask_day(const uint8_t *image, uint64_t house)
+{
+    bcf_entry row[QUARTERS] = {{0}};
+    uint64_t alone = 0;
+    int filed = 0;
+    for (uint64_t quarter = 0; quarter < QUARTERS; quarter++)
+        row[quarter].hash = hash_of(house, quarter);
+    printf("house %" PRIu64 ", not sorted: %u\n", house,
+           BCF_NUMBER(bcf_row(image, BCF_LENGTH(B), row, QUARTERS)));
+    qsort(row, QUARTERS, sizeof row[0], by_hash);
+    uint64_t total = value(bcf_row(image, BCF_LENGTH(B), row, QUARTERS));
+    for (int i = 0; i < QUARTERS; i++) {
+        filed += row[i].place != BCF_NONE;
+        alone += row[i].reads;
+    }
+    printf("house %" PRIu64 " in one row: %d of %d filed\n", house, filed, QUARTERS);
+    printf("reads in the row: %" PRIu64 ", one by one: %" PRIu64 "\n", total, alone);
+}
+
 int main(void)
 {
     file_day(today, 0);
@@ -84,6 +112,7 @@ int main(void)
 
     value(bcf_merge(today, sizeof today, tomorrow, sizeof tomorrow, both, sizeof both));
     list("both days", both);
+    ask_day(both, 7);
     both[0] = 0xFF;
     both[1] = 0xFF;
     uint64_t damaged = bcf_check(both, sizeof both);

@@ -1,7 +1,7 @@
 //! A day of readings: 96 quarter hours of 20 houses are filed, asked for, taken out and merged
-//! with another day. Prints the same as the example in C.
+//! with another day, and a house's day is asked for in one row. Prints the same as the example in C.
 
-use breadcrumb::{Changed, Image, Place, Refusal};
+use breadcrumb::{Changed, Entry, Image, Place, Refusal};
 
 const B: usize = 20;
 const HOUSES: u64 = 20;
@@ -55,6 +55,26 @@ fn place(place: Place) -> (u64, u64) {
     }
 }
 
+/// All quarter hours of a house in one row.
+fn ask_day<Bytes: AsRef<[u8]>>(image: &Image<Bytes>, house: u64) -> Result<(), Refusal> {
+    let ask = |quarter| Entry::new(hash_of(house, quarter));
+    let mut row: Vec<Entry> = (0..QUARTERS).map(ask).collect();
+    if image.row(&mut row) == Err(Refusal::Descending) {
+        println!("house {house}, not sorted: 10");
+    }
+    // Entries in the order of their hashes are in the order of their front buckets.
+    row.sort_by_key(|entry| entry.hash);
+    let total = image.row(&mut row)?;
+    let (mut filed, mut alone) = (0, 0);
+    for asked in row.iter().map(Entry::asked) {
+        filed += (asked.place != Place::None) as u32;
+        alone += asked.reads;
+    }
+    println!("house {house} in one row: {filed} of {QUARTERS} filed");
+    println!("reads in the row: {total}, one by one: {alone}");
+    Ok(())
+}
+
 fn main() -> Result<(), Refusal> {
     let mut today = file_day(0)?;
     let tomorrow = file_day(QUARTERS)?;
@@ -81,6 +101,7 @@ fn main() -> Result<(), Refusal> {
     let mut both = Image::over(&mut bytes[..]);
     both.merge(&today, &tomorrow)?;
     list("both days", &both)?;
+    ask_day(&both, 7)?;
     bytes[..2].fill(0xFF);
     if let Err(Refusal::Unsound(table)) = Image::over(&bytes[..]).check() {
         println!("damaged: 3 in bucket {table}");

@@ -35,6 +35,8 @@ pub enum Refusal {
     DoesNotFit,
     /// 8: a backyard bucket has a member before its turn; its table number.
     Early(u64),
+    /// 10: an entry of a row has a front bucket below that of the entry before it.
+    Descending,
     /// A number that this wrapper does not know, with its value.
     Other(u8, u64),
 }
@@ -50,6 +52,7 @@ impl fmt::Display for Refusal {
             Refusal::PastTheEnd => write!(f, "6: past the last front bucket"),
             Refusal::DoesNotFit => write!(f, "7: the bucket does not fit into the output"),
             Refusal::Early(table) => write!(f, "8: bucket {table} has a member before its turn"),
+            Refusal::Descending => write!(f, "10: the front buckets of the row descend"),
             Refusal::Other(number, value) => write!(f, "{number}: {value}"),
         }
     }
@@ -82,6 +85,41 @@ pub struct Asked {
     pub place: Place,
 }
 
+/// An ask in a row: its hash, and what an accepted row tells of it in numbers.
+#[repr(C)]
+#[derive(Clone, Copy, PartialEq, Eq, Debug)]
+pub struct Entry {
+    pub hash: u64,
+    pub reads: u32,
+    /// 0 none, 1 front, 2 first, 3 second.
+    pub place: u32,
+    /// 0 where the place is none.
+    pub slot: u32,
+    /// A row leaves this alone.
+    pub copies: u32,
+}
+
+impl Entry {
+    /// An ask for this hash; all else is 0.
+    pub fn new(hash: u64) -> Entry {
+        Entry {
+            hash,
+            reads: 0,
+            place: 0,
+            slot: 0,
+            copies: 0,
+        }
+    }
+
+    /// The answer of the ask, once a row was accepted.
+    pub fn asked(&self) -> Asked {
+        Asked {
+            reads: self.reads.into(),
+            place: place(self.place.into(), self.slot.into()),
+        }
+    }
+}
+
 /// The answer of a count.
 #[derive(Clone, Copy, PartialEq, Eq, Debug)]
 pub struct Counted {
@@ -109,6 +147,7 @@ fn unpack(answer: u64) -> Result<u64, Refusal> {
         6 => Refusal::PastTheEnd,
         7 => Refusal::DoesNotFit,
         8 => Refusal::Early(value),
+        10 => Refusal::Descending,
         _ => Refusal::Other(number, value),
     })
 }
@@ -117,6 +156,16 @@ fn changed(value: u64) -> Changed {
     match value {
         0 => Changed::Front,
         _ => Changed::Backyard(value - 1),
+    }
+}
+
+/// A place by its number, 0 to 3.
+fn place(number: u64, slot: u64) -> Place {
+    match number {
+        0 => Place::None,
+        1 => Place::Front(slot),
+        2 => Place::First(slot),
+        _ => Place::Second(slot),
     }
 }
 
@@ -159,16 +208,18 @@ impl<Bytes: AsRef<[u8]>> Image<Bytes> {
 
     pub fn ask(&self, hash: u64) -> Result<Asked, Refusal> {
         let value = unpack(packed::ask(self.bytes(), hash))?;
-        let slot = value / 256;
         Ok(Asked {
             reads: value % 16,
-            place: match value / 16 % 16 {
-                0 => Place::None,
-                1 => Place::Front(slot),
-                2 => Place::First(slot),
-                _ => Place::Second(slot),
-            },
+            place: place(value / 16 % 16, value / 256),
         })
+    }
+
+    /// Asks for the hash of every entry, each answered as a lone ask would be. Front buckets must
+    /// not descend from entry to entry; they do not in a row that is sorted by hash. Neighbours
+    /// with the same front bucket share their reads: the total is the sum over such groups of the
+    /// greatest reads in the group.
+    pub fn row(&self, row: &mut [Entry]) -> Result<u64, Refusal> {
+        unpack(packed::row(self.bytes(), row))
     }
 
     pub fn count(&self, hash: u64) -> Result<Counted, Refusal> {

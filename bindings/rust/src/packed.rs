@@ -3,12 +3,15 @@
 //! Each takes any bytes: a slice is passed as a pointer and a length, and the functions have no
 //! further conditions. include/breadcrumb.h has the same declarations.
 
+use crate::Entry;
+
 unsafe extern "C" {
     fn bcf_fresh(image: *mut u8, length: usize) -> u64;
     fn bcf_check(image: *const u8, length: usize) -> u64;
     fn bcf_insert(image: *mut u8, length: usize, hash: u64) -> u64;
     fn bcf_delete(image: *mut u8, length: usize, hash: u64) -> u64;
     fn bcf_ask(image: *const u8, length: usize, hash: u64) -> u64;
+    fn bcf_row(image: *const u8, length: usize, row: *mut Entry, row_length: usize) -> u64;
     fn bcf_count(image: *const u8, length: usize, hash: u64) -> u64;
     fn bcf_page(
         image: *const u8,
@@ -50,6 +53,11 @@ pub fn delete(image: &mut [u8], hash: u64) -> u64 {
 /// Value: reads + 16 × place + 256 × slot, place 0 none, 1 front, 2 first, 3 second.
 pub fn ask(image: &[u8], hash: u64) -> u64 {
     unsafe { bcf_ask(image.as_ptr(), image.len(), hash) }
+}
+
+/// Value: the total.
+pub fn row(image: &[u8], row: &mut [Entry]) -> u64 {
+    unsafe { bcf_row(image.as_ptr(), image.len(), row.as_mut_ptr(), row.len()) }
 }
 
 /// Value: copies + 2^32 × reads.

@@ -1,4 +1,4 @@
-use breadcrumb::{Asked, Changed, Counted, Image, Paged, Place, Refusal};
+use breadcrumb::{Asked, Changed, Counted, Entry, Image, Paged, Place, Refusal};
 
 /// A hash with f = 13 where B = 3.
 const THIRTEEN: u64 = 0x8AAAAAAB00000000;
@@ -50,6 +50,60 @@ fn refusals() {
     assert_eq!(target.merge(&early, &early), Err(Refusal::Early(8)));
     let other = Image::new(2).unwrap();
     assert_eq!(target.merge(&early, &other), Err(Refusal::LengthsDiffer));
+}
+
+#[test]
+fn rows() {
+    let mut image = Image::new(3).unwrap();
+    for n in 0..40 {
+        image.insert(THIRTEEN + 10 * n).unwrap();
+    }
+    image.insert(u64::MAX).unwrap();
+    // Three groups: one ask in front bucket 0, five in 13 that end in every way, two in 23.
+    let asks = [
+        (1, 1, Place::None),
+        (THIRTEEN, 1, Place::Front(0)),
+        (THIRTEEN + 390, 2, Place::First(5)),
+        (THIRTEEN + 380, 3, Place::Second(5)),
+        (THIRTEEN + 5, 1, Place::None),
+        (THIRTEEN + 395, 3, Place::None),
+        (u64::MAX - 1, 1, Place::None),
+        (u64::MAX, 1, Place::Front(0)),
+    ];
+    let mut row = asks.map(|(hash, ..)| Entry::new(hash));
+    for (entry, copies) in row.iter_mut().zip(1..) {
+        entry.copies = copies;
+    }
+    assert_eq!(image.row(&mut row), Ok(1 + 3 + 1));
+    for ((entry, copies), (hash, reads, place)) in row.iter().zip(1..).zip(asks) {
+        assert_eq!((entry.hash, entry.copies), (hash, copies));
+        assert_eq!(entry.asked(), Asked { reads, place });
+        assert_eq!(image.ask(hash), Ok(entry.asked()));
+    }
+    assert_eq!(image.row(&mut []), Ok(0));
+    assert_eq!(std::mem::size_of::<Entry>(), 24);
+}
+
+#[test]
+fn refused_rows() {
+    let ascending = [THIRTEEN, u64::MAX].map(Entry::new);
+    let descending = [u64::MAX, THIRTEEN].map(Entry::new);
+    let mut image = Image::new(3).unwrap().into_bytes();
+    // A refused row keeps its entries.
+    let refused = |image: &[u8], row: [Entry; 2]| {
+        let mut lent = row;
+        let refusal = Image::over(image).row(&mut lent).unwrap_err();
+        assert_eq!(lent, row);
+        refusal
+    };
+    assert_eq!(refused(&image, descending), Refusal::Descending);
+    // The front bucket of the larger hash becomes unsound.
+    image[23 * 64..24 * 64].fill(0);
+    assert_eq!(refused(&image, ascending), Refusal::Unsound(23));
+    assert_eq!(refused(&image, descending), Refusal::Descending);
+    assert_eq!(refused(&image[1..], descending), Refusal::WrongLength);
+    let short = Image::over(&image[1..]);
+    assert_eq!(short.row(&mut []), Err(Refusal::WrongLength));
 }
 
 #[test]

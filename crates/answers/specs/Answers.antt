@@ -10,7 +10,7 @@ use Rattle.machine.specs.Machine as M
 use Rattle.machine.specs.Pages.{Run}
 use Rattle.machine.specs.Calls.{freshOf, insertOf, deleteOf, pageOf, mergeOf, written, imageOf, outputOf, targetOf}
 use Rattle.answers.specs.declared.Refusal.{Refusal}
-use Rattle.answers.specs.declared.Refusal.the-variants.{WrongLength, LengthsDiffer, Unsound, Full, Absent, PastEnd, NoRoom, Early}
+use Rattle.answers.specs.declared.Refusal.the-variants.{WrongLength, LengthsDiffer, Unsound, Full, Absent, PastEnd, NoRoom, Early, Descending}
 use Rattle.answers.specs.declared.Outcome.{Outcome}
 use Rattle.answers.specs.declared.Outcome.the-variants as D
 use Rattle.answers.specs.declared.ChangeResult.{ChangeResult}
@@ -25,15 +25,19 @@ use Rattle.answers.specs.declared.PageResult.{PageResult}
 use Rattle.answers.specs.declared.PageResult.the-variants as G
 
 -- "the numbers a caller may get": a refusal's number, and its table number or 0
+abbrev pub numbered : Refusal → ℕ × ℕ
+numbered WrongLength = (1, 0)
+numbered LengthsDiffer = (2, 0)
+numbered (Unsound i) = (3, i)
+numbered Full = (4, 0)
+numbered Absent = (5, 0)
+numbered PastEnd = (6, 0)
+numbered NoRoom = (7, 0)
+numbered (Early i) = (8, i)
+numbered Descending = (10, 0)
+
 abbrev pub refusal : {A : Type 0} → Refusal → Result A
-refusal WrongLength = refused 1 0
-refusal LengthsDiffer = refused 2 0
-refusal (Unsound i) = refused 3 i
-refusal Full = refused 4 0
-refusal Absent = refused 5 0
-refusal PastEnd = refused 6 0
-refusal NoRoom = refused 7 0
-refusal (Early i) = refused 8 i
+refusal r = refused (numbered r .0) (numbered r .1)
 
 -- "fresh, check and merge give 0 when accepted"
 abbrev pub outcomeOf : Outcome → Result (Unit {0})

@@ -3,7 +3,8 @@
 
 pub mod pairs;
 
-// "The numbers a caller may get", 1 to 8 in this order. An unsound bucket and one with a member before its turn have a table number.
+// "The numbers a caller may get": 1 to 8 in this order, then 10, a row whose front buckets descend. An unsound bucket and one with a member
+// before its turn have a table number.
 pub enum Refusal {
     WrongLength,
     LengthsDiffer,
@@ -13,6 +14,7 @@ pub enum Refusal {
     PastEnd,
     NoRoom,
     Early(usize),
+    Descending,
 }
 
 // What a fresh, a check or a merge gives.
@@ -62,5 +64,21 @@ pub enum CountResult {
 // What a page gives: how many, and "the next bucket".
 pub enum PageResult {
     Accepted(usize, usize),
+    Refused(Refusal),
+}
+
+// An ask in a row: its hash, and what it receives, numbers alone since a row is lent; `receivedOf` in specs/Rows.antt says what they mean.
+#[repr(C)]
+pub struct Entry {
+    pub hash: u64,
+    pub reads: u32,
+    pub place: u32,
+    pub slot: u32,
+    pub copies: u32,
+}
+
+// What a row of asks gives: the total of its reads.
+pub enum RowResult {
+    Accepted(usize),
     Refused(Refusal),
 }

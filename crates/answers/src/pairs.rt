@@ -49,6 +49,10 @@ pub fn refused(why: Refusal) -> Said
             number: 8,
             value: table as u64,
         },
+        Refusal::Descending => Said {
+            number: 10,
+            value: 0,
+        },
     }
 }
 

@@ -1,15 +1,22 @@
-// The catalogue: one lent image, and the eight calls on it. Each gives document 01's answer, or why it is refused, and every byte that it was
+// The catalogue: one lent image, and the nine calls on it. Each gives the documents' answer, or why it is refused, and every byte that it was
 // lent is the plain machine's after it.
 
 use answers::AskResult;
 use answers::ChangeResult;
 use answers::CountResult;
+use answers::Entry;
 use answers::Outcome;
 use answers::PageResult;
+use answers::RowResult;
+use grouping::turn::begin;
+use grouping::turn::outcome;
+use grouping::turn::resume;
+use rows::sweep;
 ghost use mathlib.Core.Path.{_≡_};
 ghost use Rattle.crumbmap.specs.Layouts.{layout1};
 ghost use Rattle.machine.specs.Calls.{askOf, countOf, checkOf};
 ghost use Rattle.answers.specs.Answers.{outcomeOf, askedOf, countedOf, Freshens, Inserts, Deletes, Pages, Merges};
+ghost use Rattle.answers.specs.Rows.{Rows};
 
 // The image becomes an empty catalogue, whatever its bytes were.
 pub fn fresh(image: &mut [u8]) -> Outcome
@@ -37,6 +44,17 @@ pub fn ask(image: &[u8], hash: u64) -> AskResult
     ensures { λ r. ⌜ askedOf r ≡ askOf layout1 (now (image .entry)) hash ⌝ }
 {
     lookup::ask::ask(image, hash)
+}
+
+// A row of asks: each entry receives what a lone ask gives, and the total of the reads that they share comes back. It is swept twice, the first
+// time to be tested.
+pub fn row(image: &[u8], row: &mut [Entry]) -> RowResult
+    ensures { λ r. ⌜ Rows layout1 (now (image .entry)) (now (row .entry)) r (now (row .exit)) ⌝ }
+{
+    let start = begin(image.len());
+    let tested = sweep(image, row, start);
+    let told = sweep(image, row, resume(tested));
+    outcome(told)
 }
 
 // How many copies of a hash's fingerprint there are, and how many buckets were read to tell.

@@ -1,5 +1,5 @@
 -- The value of each call on an image is below 2^56: answers and table numbers are small, and members are few.
--- Main results: fresh-fits, check-fits, insert-fits, delete-fits, ask-fits, count-fits, page-fits, merge-fits.
+-- Main results: fresh-fits, check-fits, insert-fits, delete-fits, ask-fits, count-fits, page-fits, merge-fits, row-fits.
 use mathlib.Core.Path.{_≡_, refl, sym}
 use Prim.Native.Nat.{ℕ, zero, suc, _+_, _*_, _-_, _^_, _≤_, _<_}
 use mathlib.Core.Bool.{Bool, true, false, cond, _&&_}
@@ -9,7 +9,7 @@ use native.Mathlib.Omega.{arith}
 use lib.ListN.{length}
 use lib.Dec.{leb, ltb, eqb}
 use borrow.Author.Tests.{ltb-false}
-use Rattle.multiset.specs.Multisets.{copies, slotOf, largest, added, removed}
+use Rattle.multiset.specs.Multisets.{Below, copies, slotOf, largest, added, removed}
 use Rattle.multiset.proofs.MultisetLaws.{copies-le-length}
 use Rattle.crumbmap.specs.Layouts.{layout1, fronts, backyards}
 use Rattle.crumbmap.specs.Fingerprints.{frontOf, keyOf}
@@ -27,8 +27,10 @@ use Rattle.machine.specs.Merges.{insertAll, mergeFrom, mergeSized}
 use Rattle.machine.specs.Calls.{freshOf, insertOf, deleteOf, askOf, countOf, pageOf, checkOf, mergeOf}
 use Rattle.machine.proofs.ImageLaws.{sizeOf-some}
 use Rattle.answers.specs.Pairs.{answerValue}
+use Rattle.machine.specs.Rows.{Row, rowOf}
+use Rattle.machine.proofs.RowLaws.{row-total, row-refused}
 use Rattle.machine.proofs.RoomLaws.{frontAt-room, backAt-room, backyard-room, run-count, slotOf-lt}
-use Rattle.capi.specs.Packing.{Within, taken, barred, nothing, placeWord, askWord, countWord, runWord}
+use Rattle.capi.specs.Packing.{Within, taken, barred, nothing, placeWord, askWord, countWord, runWord, rowWord}
 use Rattle.capi.proofs.ResultLaws.{within-then, within-cond, within-found, within-unless}
 
 abbrev cap : ℕ
@@ -36,7 +38,7 @@ cap = 2 ^ 56
 
 -- ---- answers that are small
 
-bar : {A : Type 0} {v : A → ℕ} (m i : ℕ) → m < 9 → i < cap → Within v cap (refused m i)
+bar : {A : Type 0} {v : A → ℕ} (m i : ℕ) → m < 256 → i < cap → Within v cap (refused m i)
 bar m i h k = barred h k
 
 pass : {A : Type 0} (a : A) → Within nothing cap (accepted a)
@@ -287,3 +289,12 @@ merge-fits a b target =
     within-then (checkSized layout1 B a) _ (checkSized-fits B a p l) (λ _ d.
     within-then (checkSized layout1 B b) _ (checkSized-fits B b p l) (λ _ e. mergeFrom-fits B (fronts B) 0 a b _ l (omega arith))))
     (λ _. bar 2 0 (omega arith) (omega arith)))))
+
+-- ---- a row
+
+pub row-fits : (img ks : List ℕ) → Below (2 ^ 64) ks → Within rowWord cap (rowOf layout1 img ks)
+row-fits img ks small = go (rowOf layout1 img ks) refl
+  where
+    go : (r : Result Row) → rowOf layout1 img ks ≡ r → Within rowWord cap r
+    go (accepted w) e = taken {a = w} (omega (arith, row-total layout1 img ks small e))
+    go (refused n i) e = let z = row-refused layout1 img ks small e in bar n i (omega arith) (omega arith)

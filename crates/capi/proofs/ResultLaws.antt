@@ -1,5 +1,5 @@
 -- Results whose number and value are within bounds: through chains, choices and searches, and as a pair of numbers.
--- Main results: within-then, within-cond, within-packs; said-done and said-paged for what the code gives.
+-- Main results: within-then, within-cond, within-packs; said-done, said-paged and said-rowed for what the code gives.
 use mathlib.Core.Path.{_≡_, refl, _∙_}
 use Prim.Native.Nat.{ℕ, _^_, _<_}
 use mathlib.Core.Bool.{Bool, true, false, cond}
@@ -11,13 +11,16 @@ use Rattle.machine.specs.Results.{Result, accepted, refused, andThen}
 use Rattle.machine.specs.Machine.{found}
 use Rattle.machine.specs.Checks.{unless}
 use Rattle.machine.specs.Pages.{Run}
+use Rattle.machine.specs.Rows.{Row}
 use Rattle.answers.specs.Answers.{outcomeOf, blank, pagedOf, extentOf}
 use Rattle.answers.specs.declared.Outcome.{Outcome}
 use Rattle.answers.specs.declared.PageResult.{PageResult}
-use Rattle.answers.specs.Pairs.{saidOf}
+use Rattle.answers.specs.declared.RowResult.{RowResult}
+use Rattle.answers.specs.Pairs.{saidOf, itself}
+use Rattle.answers.specs.Rows.{rowedOf, totalOf}
 use Rattle.answers.specs.declared.pairs.Said.{Said}
 use Rattle.answers.proofs.PairLaws.{said-mapped}
-use Rattle.capi.specs.Packing.{Within, taken, barred, Packs, nothing, extentWord, runWord}
+use Rattle.capi.specs.Packing.{Within, taken, barred, Packs, nothing, extentWord, runWord, rowWord}
 
 -- what a result within bounds says
 pub within-accepted : {A : Type 0} {v : A → ℕ} {n : ℕ} {a : A} → Within v n (accepted a) → v a < n
@@ -52,7 +55,7 @@ within-found none k r g h = h
 within-found (some i) k r g h = g i refl
 
 -- something found is refused
-pub within-unless : {n m : ℕ} (o : Option ℕ) (r : Result (Unit {0})) → m < 9 → ((i : ℕ) → o ≡ some i → i < n) → Within nothing n r
+pub within-unless : {n m : ℕ} (o : Option ℕ) (r : Result (Unit {0})) → m < 256 → ((i : ℕ) → o ≡ some i → i < n) → Within nothing n r
     → Within nothing n (unless o m r)
 within-unless none r h g k = k
 within-unless (some i) r h g k = barred h (g i refl)
@@ -64,3 +67,6 @@ said-done m r s e f = e ∙ rw f (said-mapped nothing (λ (i : List ℕ). tt) m)
 
 pub said-paged : (m : Result Run) (r : PageResult) (s : Said) → s ≡ saidOf extentWord (pagedOf r) → pagedOf r ≡ extentOf m → s ≡ saidOf runWord m
 said-paged m r s e f = e ∙ rw f (said-mapped extentWord (λ (p : Run). (length (p .entries), p .next)) m)
+
+pub said-rowed : (m : Result Row) (r : RowResult) (s : Said) → s ≡ saidOf itself (rowedOf r) → rowedOf r ≡ totalOf m → s ≡ saidOf rowWord m
+said-rowed m r s e f = e ∙ rw f (said-mapped itself rowWord m)

@@ -4,6 +4,7 @@ use lib.ListN.{length}
 use Rattle.machine.specs.Results.{Result, accepted, refused}
 use Rattle.machine.specs.Machine.{Asked, Counted, Place, nowhere, front, first, second}
 use Rattle.machine.specs.Pages.{Run}
+use Rattle.machine.specs.Rows.{Row}
 use Rattle.answers.specs.Pairs.{saidOf}
 use Rattle.answers.specs.declared.pairs.Said.{Said}
 
@@ -14,13 +15,13 @@ pack s = s .number * 2 ^ 56 + s .value
 abbrev pub packed : {A : Type 0} → (A → ℕ) → Result A → ℕ
 packed v r = pack (saidOf v r)
 
--- a result whose number is one of document 01's and whose value is below n, so that packing loses nothing at n = 2^56
+-- a result whose number is below 256 and whose value is below n, so that packing loses nothing at n = 2^56
 pub data Within {A : Type 0} (v : A → ℕ) (n : ℕ) : Result A → Type 0 where
   taken : {a : A} → v a < n → Within v n (accepted a)
-  barred : {m i : ℕ} → m < 9 → i < n → Within v n (refused m i)
+  barred : {m i : ℕ} → m < 256 → i < n → Within v n (refused m i)
 
 pub record Packs (s : Said) : Type 0 where
-  pub number : s .number < 9
+  pub number : s .number < 256
   pub value : s .value < 2 ^ 56
 
 -- ---- values
@@ -49,3 +50,7 @@ extentWord e = e .0 + 2 ^ 32 * e .1
 
 abbrev pub runWord : Run → ℕ
 runWord r = extentWord (length (r .entries), r .next)
+
+-- row: the total
+abbrev pub rowWord : Row → ℕ
+rowWord r = r .total

@@ -7,6 +7,8 @@ use crate::pack::counted;
 use crate::pack::done;
 use crate::pack::packed;
 use crate::pack::paged;
+use crate::pack::rowed;
+use answers::Entry;
 use answers::pairs::changed;
 use breadcrumb::ask;
 use breadcrumb::check;
@@ -20,7 +22,9 @@ ghost use mathlib.Core.Path.{_≡_};
 ghost use lib.ListN.{length};
 ghost use Rattle.crumbmap.specs.Layouts.{layout1};
 ghost use Rattle.machine.specs.Calls.{freshOf, insertOf, deleteOf, askOf, countOf, pageOf, checkOf, mergeOf, written, imageOf, outputOf, targetOf};
+ghost use Rattle.machine.specs.Rows.{rowOf};
 ghost use Rattle.answers.specs.Pairs.{answerValue};
+ghost use Rattle.answers.specs.Rows.{hashes, entriesOf};
 ghost use Rattle.capi.specs.Packing as P;
 
 // The image becomes fresh.
@@ -64,6 +68,15 @@ pub extern "C" fn bcf_ask(image: &[u8], hash: u64) -> u64
     ensures { λ r. ⌜ r ≡ P.packed P.askWord (askOf layout1 (now (image .entry)) hash) ⌝ }
 {
     packed(asked(ask(image, hash)))
+}
+
+// A row of asks: each entry receives its answer, and the total of the reads that they share comes back.
+#[no_mangle]
+pub extern "C" fn bcf_row(image: &[u8], row: &mut [Entry]) -> u64
+    ensures { λ r. ⌜ r ≡ P.packed P.rowWord (rowOf layout1 (now (image .entry)) (hashes (now (row .entry)))) ⌝ }
+    ensures { λ r. ⌜ now (row .exit) ≡ entriesOf (rowOf layout1 (now (image .entry)) (hashes (now (row .entry)))) (now (row .entry)) ⌝ }
+{
+    packed(rowed(breadcrumb::row(image, row)))
 }
 
 // How many copies of a hash there are.

@@ -5,12 +5,14 @@ use answers::CountResult;
 use answers::Outcome;
 use answers::PageResult;
 use answers::Place;
+use answers::RowResult;
 use answers::pairs::Said;
 use answers::pairs::refused;
 ghost use mathlib.Core.Path.{_≡_};
 ghost use Prim.Native.Nat.{_^_, _<_};
 ghost use Rattle.answers.specs.Answers.{outcomeOf, placeOf, askedOf, countedOf, pagedOf};
-ghost use Rattle.answers.specs.Pairs.{saidOf};
+ghost use Rattle.answers.specs.Pairs.{saidOf, itself};
+ghost use Rattle.answers.specs.Rows.{rowedOf};
 ghost use Rattle.capi.specs.Packing.{pack, Packs, Within, nothing, placeWord, askWord, countWord, extentWord};
 
 // Number × 2^56 + value.
@@ -89,5 +91,18 @@ pub(crate) fn paged(given: PageResult) -> Said
             value: (n as u64) + 4294967296 * (next as u64),
         },
         PageResult::Refused(why) => refused(why),
+    }
+}
+
+// What a row of asks gives.
+pub(crate) fn rowed(given: RowResult) -> Said
+    ensures { λ s. ⌜ s ≡ saidOf itself (rowedOf given) ⌝ }
+{
+    match given {
+        RowResult::Accepted(total) => Said {
+            number: 0,
+            value: total as u64,
+        },
+        RowResult::Refused(why) => refused(why),
     }
 }

@@ -12,7 +12,7 @@ use Rattle.machine.specs.Pages.{Run}
 use Rattle.machine.specs.Calls.{freshOf, insertOf, deleteOf, pageOf, mergeOf, written, targetOf}
 use Rattle.answers.specs.Answers.{refusal}
 use Rattle.answers.specs.declared.Refusal.{Refusal}
-use Rattle.answers.specs.declared.Refusal.the-variants as R
+use Rattle.answers.proofs.PairLaws.{refusal-number}
 use Rattle.history.specs.Histories.{Call, History, Started, bytesAfter, numberOf, imageAfter}
 use Rattle.catalogue.specs.Runs.{Performed, inserted, deleted, asked, counted, paged, Happened, fresh, merge, followed}
 
@@ -20,14 +20,7 @@ use Rattle.catalogue.specs.Runs.{Performed, inserted, deleted, asked, co
 
 -- a refusal is no accepted answer
 pub refusal-never : (A : Type 0) (x : Refusal) → number (refusal {A = A} x) ≡ 0 → ⊥
-refusal-never A R.WrongLength e = omega arith
-refusal-never A R.LengthsDiffer e = omega arith
-refusal-never A (R.Unsound i) e = omega arith
-refusal-never A R.Full e = omega arith
-refusal-never A R.Absent e = omega arith
-refusal-never A R.PastEnd e = omega arith
-refusal-never A R.NoRoom e = omega arith
-refusal-never A (R.Early i) e = omega arith
+refusal-never A x e = omega (arith, refusal-number A x)
 
 -- the answer without the image has the number of the whole
 number-then : {A C : Type 0} (r : Result A) (f : A → C) → number (andThen r (λ a. accepted (f a))) ≡ number r

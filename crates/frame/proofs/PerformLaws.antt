@@ -13,9 +13,9 @@ use Rattle.machine.specs.Pages.{Run}
 use Rattle.machine.specs.Calls.{outputOf}
 use Rattle.answers.specs.Answers.{refusal, extentOf}
 use Rattle.answers.specs.declared.Refusal.{Refusal}
-use Rattle.answers.specs.Pairs.{saidOf, refusalOf, itself}
+use Rattle.answers.specs.Pairs.{saidOf, refusalOf}
 use Rattle.answers.specs.declared.pairs.Said.{Said}
-use Rattle.answers.proofs.PairLaws.{said-refusal, refusal-number}
+use Rattle.answers.proofs.PairLaws.{refusal-number}
 use Rattle.text.specs.Texts.{over}
 use Rattle.text.specs.Lines.{line, told, entryLines}
 use Rattle.frame.specs.Frames.{listText, frameOf, textOf, imageAfter, Performs, fit, Answers}
@@ -65,10 +65,8 @@ pub list-refused : (p : Result Run) (why : Refusal) → refusal why ≡ extentOf
 unfolding entryLines
 list-refused (accepted r) why e = absurd (omega (arith, refusal-number (ℕ × ℕ) why, ap number e))
 list-refused (refused n i) why e =
-    let s : refusalOf why ≡ record { number = n; value = i } =
-    said-refusal itself (λ (p : ℕ × ℕ). p .0) why ∙ ap (λ (x : Result (ℕ × ℕ)). saidOf (λ (p : ℕ × ℕ). p .0) x) e
-    in
-    rw s (sym (append-nil (line 5 n i)))
+    let s : refusalOf why ≡ record { number = n; value = i } = ap (λ (x : Result (ℕ × ℕ)). saidOf (λ (p : ℕ × ℕ). p .0) x) e in
+    ap (told 5) s ∙ sym (append-nil (line 5 n i))
 
 -- ---- frames
 

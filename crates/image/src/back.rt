@@ -6,19 +6,22 @@ use crate::place::back_bucket;
 use crate::place::table_of;
 use crumbmap::Backyard;
 use crumbmap::Front;
+use crumbmap::Overflow;
 use crumbmap::Ways;
 use edits::edit::insert_back;
 use edits::edit::remove_back;
 use minifilter::Reading;
 use minifilter::read::read_back;
 use search::find::copies_back;
+use search::find::seek_back;
 ghost use mathlib.Core.Path.{_≡_};
 ghost use Prim.Native.Nat.{_+_, _*_, _<_, _≤_};
-ghost use Rattle.multiset.specs.Multisets.{copies, added, removed};
+ghost use Rattle.multiset.specs.Multisets.{copies, slotOf, added, removed};
 ghost use Rattle.crumbmap.specs.Layouts.{layout1, keys};
 ghost use Rattle.crumbmap.specs.Steps.Places.{LeadsBoth};
+ghost use Rattle.search.specs.Steps.Searches.{seatOf};
 ghost use Rattle.machine.specs.Images.{inBack, putBack};
-ghost use Rattle.image.specs.Steps.ImageReads.{At, FrontIn, BackIn, BackRead, BackSays, BackyardSays, ReadFor, BackJoin};
+ghost use Rattle.image.specs.Steps.ImageReads.{At, FrontIn, BackIn, BackRead, BackSays, BackyardSays, BagRead, ReadFor, BackJoin};
 
 // A backyard bucket, read whole, and how many of its members are below one.
 pub fn read_back_at(image: &[u8], size: usize, bucket: Backyard, member: u32) -> Reading
@@ -95,4 +98,12 @@ pub fn copies_at(image: &[u8], size: usize, reading: BackReading, key: u32) -> u
     let way = reading.way;
     let b = back_bucket(image, size, way.bucket);
     copies_back(b, reading.below, key * 16 + way.crumb)
+}
+
+// The lowest slot of a key in a backyard bucket that was read, with the crumb that it carries there, or NOWHERE.
+pub fn seek_at(image: &[u8], size: usize, way: Overflow, key: u32) -> usize
+    requires { ⌜ BagRead layout1 size way (now image) × (key < keys layout1) ⌝ }
+    ensures { λ r. ⌜ r ≡ seatOf layout1 (slotOf (key * 16 + way .crumb) (inBack layout1 size (way .bucket .0) (now (image .entry)))) ⌝ }
+{
+    seek_back(back_bucket(image, size, way.bucket), key * 16 + way.crumb)
 }

@@ -93,7 +93,7 @@ fn ask_behind(image: &[u8], target: Target) -> AskResult
 }
 
 // One backyard bucket is read, and the key sought with the crumb that it carries there.
-fn seek(image: &[u8], size: usize, way: Overflow, key: u32) -> Sought
+pub fn seek(image: &[u8], size: usize, way: Overflow, key: u32) -> Sought
     requires { ⌜ BackIn size (way .bucket .0) (now image) × (way .crumb < 16) × (key < keys layout1) ⌝ }
     ensures { λ r. ⌜ r ≡ soughtIn (key * 16 + way .crumb) (backAt layout1 size (way .bucket .0) (now (image .entry))) ⌝ }
 {

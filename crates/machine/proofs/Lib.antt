@@ -21,3 +21,4 @@ pub mod CheckLaws
 pub mod HomeLaws
 pub mod MergeLaws
 pub mod RoomLaws
+pub mod RowLaws

@@ -1,4 +1,4 @@
--- The plain machine of document 01, from the image up to the calls.
+-- The plain machine of document 01, from the image up to the calls, and the rows of document 02.
 pub mod Results
 pub mod Images
 pub mod Bags
@@ -9,3 +9,4 @@ pub mod Checks
 pub mod Homes
 pub mod Merges
 pub mod Calls
+pub mod Rows

@@ -3,7 +3,7 @@
 use mathlib.Core.Path.{_≡_, refl, sym, _∙_}
 use Prim.Native.Nat.{ℕ, suc, _+_, _-_, _≤_, _<_}
 use mathlib.Core.Bool.{Bool, true, false}
-use mathlib.Core.List.{List, [], _∷_}
+use mathlib.Core.List.{List, []}
 use mathlib.Core.Option.{Option, none, some}
 use native.Mathlib.Numerals.{add-one}
 use native.Mathlib.Nat.{sub-zero}
@@ -23,9 +23,8 @@ use Rattle.machine.specs.Checks.{unless, unsoundFront, unsoundBack, early, chec
 use Rattle.machine.proofs.AcceptedLaws.{andThen-andThen, never-refused}
 use Rattle.machine.proofs.Invariant.{Good, total}
 use Rattle.machine.proofs.MergeLaws.{empty-good, empty-total, insertAll-good}
-use Rattle.answers.specs.Answers.{refusal, outcomeOf, Fills}
+use Rattle.answers.specs.Answers.{numbered, outcomeOf, Fills}
 use Rattle.answers.specs.declared.Refusal.{Refusal}
-use Rattle.answers.specs.declared.Refusal.the-variants.{WrongLength, LengthsDiffer, Unsound, Full, Absent, PastEnd, NoRoom, Early}
 use Rattle.answers.specs.declared.Outcome.{Outcome}
 use Rattle.answers.specs.declared.Outcome.the-variants as D
 use Rattle.image.specs.Steps.ImageReads.{Whole}
@@ -143,17 +142,6 @@ module _ (L : Layout) {m : Result (List ℕ)} {t : Bool} {now old : List ℕ} (t
 
 -- ---- what check refuses
 
--- a refusal has a number
-is-refused : {A : Type 0} (why : Refusal) → (n : ℕ) × (i : ℕ) × (refusal {A = A} why ≡ refused n i)
-is-refused WrongLength = (1, 0, refl)
-is-refused LengthsDiffer = (2, 0, refl)
-is-refused (Unsound i) = (3, i, refl)
-is-refused Full = (4, 0, refl)
-is-refused Absent = (5, 0, refl)
-is-refused PastEnd = (6, 0, refl)
-is-refused NoRoom = (7, 0, refl)
-is-refused (Early i) = (8, i, refl)
-
 -- check's numbers are 3 and 8
 unless-number : (o : Option ℕ) (m : ℕ) (k : Result (Unit {0})) → eqb m 4 ≡ false → ((n i : ℕ) → k ≡ refused n i → eqb n 4 ≡ false)
     → (n i : ℕ) → unless o m k ≡ refused n i → eqb n 4 ≡ false
@@ -173,9 +161,9 @@ module _ (L : Layout) (B : ℕ) (img : List ℕ) {r : Outcome} (said : outcomeOf
   pub check-refuses : (old : List ℕ) {why : Refusal} (k : Unit {0} → Result (List ℕ)) → r ≡ D.Refused why
       → Fills L (andThen (checkSized L B img) k) old (D.Refused why) old
   check-refuses old {why} k e =
-      let w = is-refused why in
-      let s : checkSized L B img ≡ refused (w .0) (w .1) = sym (rw e at said) ∙ w .2 in
-      rw s record { answer = w .2; bytes = rw (check-number L B img (w .0) (w .1) s) }
+      let w = numbered why in
+      let s : checkSized L B img ≡ refused (w .0) (w .1) = sym (rw e at said) in
+      rw s record { answer = refl; bytes = rw (check-number L B img (w .0) (w .1) s) }
 
   pub check-passes : r ≡ D.Accepted → Whole B img → Checked L B img
   check-passes e w = record { size = w; passed = sym said ∙ rw e }

@@ -4,22 +4,26 @@ use crumbmap::layout::FRONT_SLOTS;
 use crumbmap::layout::MINIS;
 use crumbmap::layout::TAGS;
 use minifilter::slots;
+use words::select;
 use words::word;
 ghost use mathlib.Core.Path.{_≡_};
 ghost use Prim.Native.Nat.{suc, _+_, _*_, _<_, _≤_};
 ghost use lib.ListN.{length};
 ghost use lib.Dec.{ltb};
-ghost use Rattle.multiset.specs.Multisets.{below, copies, largest};
+ghost use Rattle.multiset.specs.Multisets.{below, copies, slotOf, largest};
 ghost use Rattle.multiset.specs.Digits.{highs};
 ghost use Rattle.crumbmap.specs.Layouts.{layout1, keys};
 ghost use Rattle.buckets.specs.Buckets.{frontList, backList};
 ghost use Rattle.words.specs.Select.{selectTable};
-ghost use Rattle.minifilter.specs.Steps.Readings.{SoundFront, SoundBack, membersOf};
+ghost use Rattle.minifilter.specs.Steps.Readings.{SoundFront, SoundBack, Sound, membersOf};
 ghost use Rattle.minifilter.specs.Steps.Slots.{slotsOf, spanOf, lowAt};
-ghost use Rattle.search.specs.Steps.Searches.{Scanned, RankOf};
+ghost use Rattle.search.specs.Steps.Searches.{Scanned, RankOf, Seekable, FirstTagged, seatOf, endOf1};
 
 // A front bucket's last slot.
 const LAST: usize = FRONT_SLOTS - 1;
+
+// No slot of a bucket: what a search gives that finds nothing.
+pub const NOWHERE: usize = FRONT_SLOTS;
 
 // What the bytes hold of a slot.
 fn low_of(b: &[u8], crumbs: bool, slot: usize) -> u32
@@ -49,14 +53,98 @@ fn scan(b: &[u8], crumbs: bool, from: usize, past: usize, low: u32) -> usize
     slot
 }
 
-// How many members of a backyard bucket are below one, key × 16 + crumb: those of the mini-buckets before its own, and in its own up to
-// the first slot that holds as much.
+// How many members are below one: those of the mini-buckets before its own, by the end of the last of these, and in its own up to the first slot
+// that holds as much.
+fn rank_in(b: &[u8], crumbs: bool, mini: u32, low: u32, end: u32) -> usize
+    requires { ⌜ Seekable layout1 crumbs (now b) mini low × (end ≡ endOf1 (now b) mini) ⌝ }
+    ensures { λ r. ⌜ r ≡ below (mini * spanOf layout1 crumbs + low) (membersOf layout1 crumbs (now (b .entry))) ⌝ }
+{
+    let slots = word::bounds(word::word_of(b), mini, end);
+    scan(b, crumbs, slots.from, slots.past, low)
+}
+
+// The same of a member of a backyard bucket, key × 16 + crumb, with the select table.
 pub fn rank_back(table: &[u8], b: &[u8], member: u32) -> usize
     requires { ⌜ (now table ≡ selectTable) × SoundBack layout1 (now b) × (member < keys layout1 * 16) ⌝ }
     ensures { λ r. ⌜ r ≡ below member (backList layout1 (now (b .entry))) ⌝ }
 {
-    let slots = word::bounds(table, word::word_of(b), member / slots::BACK_SPAN);
-    scan(b, true, slots.from, slots.past, member % slots::BACK_SPAN)
+    let mini = member / slots::BACK_SPAN;
+    let end = select::select(table, word::word_of(b), word::rank_before(mini));
+    rank_in(b, true, mini, member % slots::BACK_SPAN, end)
+}
+
+// The end of the mini-bucket before one, without the table.
+fn end_before(b: &[u8], crumbs: bool, mini: u32) -> u32
+    requires { ⌜ Sound layout1 crumbs (now b) × (mini < layout1 .minis) ⌝ }
+    ensures { λ r. ⌜ r ≡ endOf1 (now (b .entry)) mini ⌝ }
+{
+    select::place_of(word::word_of(b), word::rank_before(mini))
+}
+
+// The lowest slot of a member, or NOWHERE.
+fn seek_in(b: &[u8], crumbs: bool, mini: u32, low: u32, end: u32) -> usize
+    requires { ⌜ Seekable layout1 crumbs (now b) mini low × (end ≡ endOf1 (now b) mini) ⌝ }
+    ensures { λ r. ⌜ r ≡ seatOf layout1 (slotOf (mini * spanOf layout1 crumbs + low) (membersOf layout1 crumbs (now (b .entry)))) ⌝ }
+{
+    let slot = rank_in(b, crumbs, mini, low, end);
+    if holds_in(b, crumbs, slot, mini, low) {
+        return slot;
+    }
+    NOWHERE
+}
+
+// The lowest slot of a front bucket that holds a tag, in use or not, or NOWHERE. No slot ends the loop, so that many are compared at once.
+fn first_tagged(b: &[u8], tag: u32) -> usize
+    requires { ⌜ length (now b) ≡ 64 ⌝ }
+    ensures { λ r. ⌜ FirstTagged layout1 (now (b .entry)) tag r ⌝ }
+{
+    let mut marks: u32 = 0;
+    let mut mark: u32 = 1;
+    let mut slot: usize = 0;
+    while slot < FRONT_SLOTS {
+        if slots::tag_of(b, slot) == tag {
+            marks += mark;
+        }
+        mark = mark * 2;
+        slot += 1;
+    }
+    if marks == 0 {
+        return NOWHERE;
+    }
+    u32::trailing_zeros(marks) as usize
+}
+
+// The lowest slot of a key in a front bucket, or NOWHERE: the first with its tag, if that is one of its mini-bucket's. Tags of other mini-buckets
+// seldom are the same; then select finds the slot.
+pub fn seek_front(b: &[u8], key: u32) -> usize
+    requires { ⌜ SoundFront layout1 (now b) × (key < keys layout1) ⌝ }
+    ensures { λ r. ⌜ r ≡ seatOf layout1 (slotOf key (frontList layout1 (now (b .entry)))) ⌝ }
+{
+    let mini = key / TAGS;
+    let tag = key % TAGS;
+    let slot = first_tagged(b, tag);
+    if slot == NOWHERE {
+        return NOWHERE;
+    }
+    if word::is_slot_of(word::word_of(b), mini, slot) {
+        return slot;
+    }
+    seek_in(b, false, mini, tag, end_before(b, false, mini))
+}
+
+// The lowest slot of a member in a backyard bucket, or NOWHERE.
+pub fn seek_back(b: &[u8], member: u32) -> usize
+    requires { ⌜ SoundBack layout1 (now b) × (member < keys layout1 * 16) ⌝ }
+    ensures { λ r. ⌜ r ≡ seatOf layout1 (slotOf member (backList layout1 (now (b .entry)))) ⌝ }
+{
+    let mini = member / slots::BACK_SPAN;
+    seek_in(
+        b,
+        true,
+        mini,
+        member % slots::BACK_SPAN,
+        end_before(b, true, mini),
+    )
 }
 
 // The slot past the last of a member's mini-bucket, from the slot where the member's copies begin: the zeros of the word from that place on.

@@ -11,7 +11,7 @@ use lib.Count.{ones, onesIn}
 use lib.Bits.{bitAnd, and-block, and-mod, and-zero-l, and-zero-r, and-le-r}
 use lib.Dec.{lit<}
 use Rattle.words.specs.Select.{selectIn, listed}
-use Rattle.words.specs.Steps.Counts.{bytewise, Sums, Stepped}
+use Rattle.words.specs.Steps.Counts.{Near, bytewise, Sums, Stepped}
 use Rattle.buckets.proofs.BitLaws.{shr-suc}
 use Rattle.words.proofs.SelectLaws.{select-pass, select-low, select-byte-hit, ones-low, ones-byte, listed-at}
 
@@ -222,13 +222,6 @@ sums-word w s e j l = rw e (running-at 0 8 j w l (lit< tt) ∙ zero-add (onesIn 
 
 -- ---- three steps to the byte of a rank
 
--- the rank stands in the `span` bits from `place` on, or behind the last
-pub record Near (w rank place span : ℕ) : Type 0 where
-  pub whole : place % 8 ≡ 0
-  pub room : place + span ≤ 64
-  pub passed : onesIn place w ≤ rank
-  pub ahead : place + span < 64 → rank < onesIn (place + span) w
-
 pub near-all : (w rank : ℕ) → Near w rank 0 64
 unfolding onesIn
 near-all w rank = record { whole = refl; room = omega arith; passed = omega arith; ahead = λ l. absurd (omega arith) }
@@ -276,3 +269,15 @@ select-none w rank place n h =
     ∙ ap (λ (y : ℕ). place + y) (select-low 8 x left ∙ select-pass 8 0 x left (omega (arith, ones-byte x, ones-low 8 x))) ∙ e)
     (λ (l : place + 8 < 64). absurd (omega (arith, n .ahead l, n .passed, ones-split place 8 w, ones-low 8 x, ones-byte x)))
     (eq-or-lt-of-le (n .room))
+
+-- a rank that the word has stands in the byte found
+pub near-left : (w rank place : ℕ) → Near w rank place 8 → w < 2 ^ 64 → rank < ones w → rank - onesIn place w < onesIn 8 (w / 2 ^ place % 256)
+near-left w rank place n small h =
+    let x = w / 2 ^ place in
+    let same : onesIn 8 (x % 256) ≡ onesIn 8 x = let e : x % 256 % 256 ≡ x % 256 = omega arith in sym (ones-low 8 (x % 256)) ∙ rw e (ones-low 8 x) in
+    let all : ones w ≡ onesIn 64 w = let e : w % 2 ^ 64 ≡ w = omega arith in rw e at (ones-low 64 w) in
+    rw same
+    (⊎-elim
+    (λ (e : place + 8 ≡ 64). omega (arith, n .passed, all, rw e at (ones-split place 8 w)))
+    (λ (l : place + 8 < 64). omega (arith, n .passed, n .ahead l, ones-split place 8 w))
+    (eq-or-lt-of-le (n .room)))

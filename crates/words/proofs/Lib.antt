@@ -2,3 +2,4 @@
 pub mod WideLaws
 pub mod SelectLaws
 pub mod ByteLaws
+pub mod HalfLaws

@@ -64,6 +64,12 @@ select-low zero w r = refl
 select-low (suc k) w r =
     rw (half-low k w, odd-low k w) (above-hit (w % 2) r (suc r) _ _ (omega arith) (omega arith) (λ s l. select-low k (w / 2) s))
 
+-- k bits have at most k ones
+pub ones-few : (k w : ℕ) → onesIn k w ≤ k
+unfolding onesIn
+ones-few zero w = omega arith
+ones-few (suc k) w = omega (arith, ones-few k (w / 2))
+
 pub ones-low : (k w : ℕ) → ones (w % 2 ^ k) ≡ onesIn k w
 unfolding ones onesIn
 ones-low zero w = let e : w % 1 ≡ 0 = omega arith in rw e
@@ -129,6 +135,28 @@ select-coded (suc bits) x (suc r) (end {w = w} c) h e f =
     let b : (1 + 2 * w) / 2 ≡ w = omega arith in
     rw (a, b) (omega (arith, select-coded bits x r c (omega arith) (omega arith) (omega arith)))
 
+-- a zero behind j ones is a slot of the j-th mini-bucket from the one at hand
+pub slot-coded : {n m : ℕ} {ms : List ℕ} {w : ℕ} (j s : ℕ) → Coded n m ms w → j < n → onesIn (j + s) w ≡ j → w / 2 ^ (j + s) % 2 ≡ 0
+    → (s < length ms) × (getD ms s 0 ≡ m + j)
+unfolding onesIn
+slot-coded j s done h e z = absurd (omega arith)
+slot-coded zero zero (member c) h e z = (omega arith, omega arith)
+slot-coded (suc j) zero (member {w = w} c) h e z =
+    let b : 2 * w / 2 ≡ w = omega arith in
+    absurd (omega (arith, rw (add-zero (suc j), b) at e, ones-few j w))
+slot-coded j (suc s) (member {w = w} c) h e z =
+    let a : 2 * w % 2 ≡ 0 = omega arith in
+    let b : 2 * w / 2 ≡ w = omega arith in
+    let p = slot-coded j s c h (omega (arith, rw (add-suc j s, a, b) at e)) (rw (add-suc j s, shr-suc, b) at z) in
+    (omega (arith, p .0), p .1)
+slot-coded zero zero (end {w = w} c) h e z = absurd (omega arith)
+slot-coded zero (suc s) (end {w = w} c) h e z = let a : (1 + 2 * w) % 2 ≡ 1 = omega arith in absurd (omega (arith, rw (zero-add (suc s), a) at e))
+slot-coded (suc j) s (end {m = m} {w = w} c) h e z =
+    let a : (1 + 2 * w) % 2 ≡ 1 = omega arith in
+    let b : (1 + 2 * w) / 2 ≡ w = omega arith in
+    let p = slot-coded j s c (omega arith) (omega (arith, rw (suc-add j s, a, b) at e)) (rw (suc-add j s, shr-suc, b) at z) in
+    (p .0, omega (arith, p .1))
+
 -- from bit x + p, slot p of mini-bucket x or the end behind its slots, a zero for each member from there on
 pub trailing-coded : {n m : ℕ} {ms : List ℕ} {w : ℕ} (bits x p pos : ℕ) → Coded n m ms w → m ≤ x → x < m + n → pos + m ≡ x + p
     → below x ms ≤ p → p ≤ below (suc x) ms → n + length ms ≤ bits → p + trailingZeros bits (w / 2 ^ pos) ≡ below (suc x) ms
@@ -183,3 +211,9 @@ module _ (bits minis w m : ℕ) (l : w < 2 ^ bits) (h : ones w ≡ minis) (k : m
   rest-minisIn slot g u =
       let c = coded-minisIn bits minis w l h in
       trailing-coded bits m slot (m + slot) (c .0) (omega arith) (omega arith) (omega arith) g u (c .1)
+
+pub slot-minisIn : (bits minis w mini slot : ℕ) → w < 2 ^ bits → ones w ≡ minis → mini < minis → onesIn (mini + slot) w ≡ mini
+    → w / 2 ^ (mini + slot) % 2 ≡ 0 → (slot < length (minisIn bits minis w)) × (getD (minisIn bits minis w) slot 0 ≡ mini)
+slot-minisIn bits minis w mini slot small full l e z =
+    let p = slot-coded mini slot (coded-minisIn bits minis w small full .0) l e z in
+    (p .0, p .1 ∙ zero-add mini)

@@ -8,3 +8,9 @@ pub struct Bounds {
     pub from: usize,
     pub past: usize,
 }
+
+// A byte of a word, by the place of its first bit, and a rank among its ones.
+pub struct Spot {
+    pub place: u32,
+    pub left: u32,
+}

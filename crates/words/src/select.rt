@@ -1,10 +1,11 @@
-// Select: the place of the one bit of a rank in a 64-bit word, by a table over byte values.
+// Select: the place of the one bit of a rank in a 64-bit word, by a table over byte values or by the two halves of a byte.
 
+use crate::Spot;
 ghost use mathlib.Core.Path.{_≡_};
-ghost use Prim.Native.Nat.{_+_, _*_, _/_, _%_, _^_, _<_};
-ghost use lib.Count.{ones};
+ghost use Prim.Native.Nat.{_+_, _-_, _*_, _/_, _%_, _^_, _<_};
+ghost use lib.Count.{ones, onesIn};
 ghost use Rattle.words.specs.Select.{selectIn, selectByte, selectTable};
-ghost use Rattle.words.specs.Steps.Counts.{bytewise, Sums, Stepped};
+ghost use Rattle.words.specs.Steps.Counts.{bytewise, Sums, Stepped, Near};
 
 // "The place of the one bit of each rank 0 to 7 in every byte value, 8 where none: 2,048 entries": that of a byte value and a rank
 // stands at 8 × byte value + rank.
@@ -123,18 +124,71 @@ fn step(sums: u64, rank: u32, place: u32, width: u32) -> u32
     place
 }
 
-// The place of the one bit of rank `rank`, 64 where there is none: three steps to its byte, and one read of the table.
-pub fn select(table: &[u8], word: u64, rank: u32) -> u32
-    requires { ⌜ now table ≡ selectTable ⌝ }
-    ensures { λ r. ⌜ r ≡ selectIn 64 word rank ⌝ }
+// The byte of the one bit of rank `rank`, or the last byte where there is none: three steps.
+fn approach(word: u64, rank: u32) -> Spot
+    ensures { λ r. ⌜ Near word rank (r .place) 8 × (r .left ≡ rank - onesIn (r .place) word) ⌝ }
 {
     let sums = sums(word);
     let half = step(sums, rank, 0, 32);
     let quarter = step(sums, rank, half, 16);
     let place = step(sums, rank, quarter, 8);
-    let left = rank - (((sums >> place) % 256) as u32);
-    if 8 <= left {
+    Spot {
+        place,
+        left: rank - (((sums >> place) % 256) as u32),
+    }
+}
+
+// The place of the one bit of rank `rank`, 64 where there is none: one read of the table in its byte.
+pub fn select(table: &[u8], word: u64, rank: u32) -> u32
+    requires { ⌜ now table ≡ selectTable ⌝ }
+    ensures { λ r. ⌜ r ≡ selectIn 64 word rank ⌝ }
+{
+    let spot = approach(word, rank);
+    let place = spot.place;
+    if 8 <= spot.left {
         return 64;
     }
-    place + at_rank(table, ((word >> place) % 256) as u8, left)
+    place + at_rank(table, ((word >> place) % 256) as u8, spot.left)
 }
+
+// The same without the table, for a rank that the word has: for a call that makes too few searches to build the table for them.
+pub fn place_of(word: u64, rank: u32) -> u32
+    requires { ⌜ rank < ones word ⌝ }
+    ensures { λ r. ⌜ r ≡ selectIn 64 word rank ⌝ }
+{
+    let spot = approach(word, rank);
+    let place = spot.place;
+    place + in_byte(((word >> place) % 256) as u32, spot.left)
+}
+
+// The place of the one bit of a rank in a byte that has it: in its lower half, or past the ones of that in the upper half.
+fn in_byte(byte: u32, rank: u32) -> u32
+    requires { ⌜ (byte < 256) × (rank < onesIn 8 byte) ⌝ }
+    ensures { λ r. ⌜ r ≡ selectByte byte rank ⌝ }
+{
+    let here = ((HALF_ONES >> (byte % 16 * 4)) % 16) as u32;
+    let mut at = 0;
+    let mut left = rank;
+    if here <= rank {
+        at = 4;
+        left = rank - here;
+    }
+    at + in_half((byte >> at) % 16, left)
+}
+
+// The place of the one bit of a rank in a half byte that has it.
+fn in_half(half: u32, rank: u32) -> u32
+    requires { ⌜ (half < 16) × (rank < onesIn 4 half) ⌝ }
+    ensures { λ r. ⌜ r ≡ selectIn 4 half rank ⌝ }
+{
+    let places = if half < 8 { LOW_PLACES } else { HIGH_PLACES };
+    ((places >> (half % 8 * 8 + rank * 2)) % 4) as u32
+}
+
+// How many ones each half byte has, four bits each.
+const HALF_ONES: u64 = 0x4332322132212110;
+
+// The places of the ones of each half byte by rank, two bits each: of half bytes 0 to 7 and 8 to 15, a byte each.
+const LOW_PLACES: u64 = 0x2409080204010000;
+
+const HIGH_PLACES: u64 = 0xe439380e340d0c03;

@@ -1,19 +1,19 @@
 // A bucket's word: read, write, its member count, the slots of a mini-bucket, and a bit put in or taken out.
 
 use crate::Bounds;
-use crate::select;
 use crumbmap::layout::MINIS;
 ghost use mathlib.Core.Path.{_≡_};
-ghost use Prim.Native.Nat.{suc, _+_, _^_, _<_, _≤_};
+ghost use Prim.Native.Nat.{suc, _+_, _-_, _/_, _%_, _^_, _<_, _≤_};
+ghost use mathlib.Core.Bool.{_&&_};
 ghost use mathlib.Core.List.{_++_};
 ghost use lib.ListN.{length, take, drop};
-ghost use lib.Count.{ones};
+ghost use lib.Count.{ones, onesIn};
+ghost use lib.Dec.{eqb};
 ghost use Rattle.multiset.specs.Multisets.{below};
 ghost use Rattle.multiset.specs.Digits.{digits, value};
 ghost use Rattle.crumbmap.specs.Layouts.{layout1};
 ghost use Rattle.buckets.specs.Words.{openedAt, closedAt, minisIn};
-ghost use Rattle.words.specs.Select.{selectTable};
-ghost use Rattle.words.specs.Steps.Wide.{wordBytes1, SlotOf1};
+ghost use Rattle.words.specs.Steps.Wide.{wordBytes1, SlotOf1, EndBefore1};
 
 // The bits of a word that are no mini-bucket's end.
 const ZEROS: u32 = 64 - MINIS;
@@ -65,23 +65,33 @@ pub fn occupancy(word: u64) -> usize
     (ZEROS - u64::leading_zeros(word)) as usize
 }
 
+// The rank of the one that ends the mini-bucket before `mini`; that of mini-bucket 0 itself where there is none before it.
+pub fn rank_before(mini: u32) -> u32
+    ensures { λ r. ⌜ r ≡ mini - 1 ⌝ }
+{
+    if mini == 0 {
+        return 0;
+    }
+    mini - 1
+}
+
 // The place of mini-bucket `mini`'s first bit: behind the end of the one before it.
-fn first_place(table: &[u8], word: u64, mini: u32) -> u32
-    requires { ⌜ (now table ≡ selectTable) × (ones word ≡ layout1 .minis) × (mini < layout1 .minis) ⌝ }
+fn first_place(word: u64, mini: u32, end: u32) -> u32
+    requires { ⌜ EndBefore1 word mini end ⌝ }
     ensures { λ r. ⌜ r ≡ mini + below mini (minisIn 64 (layout1 .minis) word) ⌝ }
 {
     if mini == 0 {
         return 0;
     }
-    select::select(table, word, mini - 1) + 1
+    end + 1
 }
 
-// The slots of mini-bucket `mini`: as many as the zeros from its first bit.
-pub fn bounds(table: &[u8], word: u64, mini: u32) -> Bounds
-    requires { ⌜ (now table ≡ selectTable) × (ones word ≡ layout1 .minis) × (mini < layout1 .minis) ⌝ }
+// The slots of mini-bucket `mini`, by the end of the one before it: as many as the zeros from its first bit.
+pub fn bounds(word: u64, mini: u32, end: u32) -> Bounds
+    requires { ⌜ EndBefore1 word mini end ⌝ }
     ensures { λ r. ⌜ (r .from ≡ below mini (minisIn 64 (layout1 .minis) word)) × (r .past ≡ below (suc mini) (minisIn 64 (layout1 .minis) word)) ⌝ }
 {
-    let place = first_place(table, word, mini);
+    let place = first_place(word, mini, end);
     let from = place - mini;
     let past = from + u64::trailing_zeros(word >> place);
     Bounds {
@@ -96,6 +106,15 @@ pub fn rest(word: u64, mini: u32, slot: usize) -> usize
     ensures { λ r. ⌜ slot + r ≡ below (suc mini) (minisIn 64 (layout1 .minis) word) ⌝ }
 {
     u64::trailing_zeros(word >> (mini + (slot as u32))) as usize
+}
+
+// Whether a slot is one of mini-bucket `mini`'s: at its place stands a zero, behind as many ones as mini-buckets before it.
+pub fn is_slot_of(word: u64, mini: u32, slot: usize) -> bool
+    requires { ⌜ mini + slot < 64 ⌝ }
+    ensures { λ r. ⌜ r ≡ (eqb (onesIn (mini + slot) word) mini && eqb (word / 2 ^ (mini + slot) % 2) 0) ⌝ }
+{
+    let unit: u64 = 1 << (mini + (slot as u32));
+    (u64::count_ones(word % unit) == mini) & (word / unit % 2 == 0)
 }
 
 // The word with a zero put in at a place, and with the bit there taken out.

@@ -13,7 +13,7 @@ pub struct Setting {
 }
 
 impl Setting {
-    fn shape(self) -> Shape {
+    pub fn shape(self) -> Shape {
         Shape { b: self.b }
     }
 

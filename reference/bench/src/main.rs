@@ -1,16 +1,20 @@
 //! Times of the calls: a table in Markdown and a plot in SVG.
 //!
 //!     bench FOLDER [quick]
+//!     bench rows [quick]
 //!     bench calls B LOAD FOLDER
 //!
 //! The first writes FOLDER/bench.md and FOLDER/bench.svg; `quick` takes fewer rounds. The second
-//! is for `compare`: it names its calls, and times the one whose number comes on standard input,
-//! again and again; its buffers are files of FOLDER.
+//! prints the table of rows alone, which is there with the feature `rows`. The third is for
+//! `compare`: it names its calls, and times the one whose number comes on standard input, again and
+//! again; its buffers are files of FOLDER.
 
 mod inputs;
 mod lines;
 mod measure;
 mod plot;
+#[cfg(feature = "rows")]
+mod rows;
 mod subject;
 
 use inputs::Setting;
@@ -123,6 +127,45 @@ trusted. `HashMap` is Rust's `HashMap<u64, u32>` as a counting multiset, with th
 that are not hashed again; its `page` collects and sorts.
 ";
 
+/// The table of rows, in the settings of the other tables.
+#[cfg(feature = "rows")]
+fn rows_table(quick: bool) -> Option<String> {
+    let mut text = format!("\n## Rows\n\n{ROWS_NOTES}\n");
+    let head = ["B", "load", "hashes", "lone", "row", "row / lone"];
+    text += &row(&head.map(str::to_string));
+    text += &format!("|{}\n", "---|".repeat(head.len()));
+    for b in [113, 65536] {
+        for load in [50, 90] {
+            eprintln!("rows, B = {b}, load {load} %");
+            let times = rows::run(Setting { b, load }, effort(b, quick));
+            for (times, hashes) in times.iter().zip(["members", "others"]) {
+                text += &row(&[
+                    b.to_string(),
+                    format!("{load} %"),
+                    hashes.to_string(),
+                    ns(Some(times.lone)),
+                    ns(Some(times.row)),
+                    ratio(Some(times.row), Some(times.lone)),
+                ]);
+            }
+        }
+    }
+    Some(text)
+}
+
+#[cfg(not(feature = "rows"))]
+fn rows_table(_: bool) -> Option<String> {
+    None
+}
+
+#[cfg(feature = "rows")]
+const ROWS_NOTES: &str = "\
+ns an ask. A row has 96 asks, sorted by hash: 12 random front buckets with 8 hashes each, all of \
+members or all of others. `lone` asks for them one by one in that order, `row` in one call of \
+`bcf_row`; there filling the entries and looking at their places is in the time. In a round both \
+ask for the same hashes, each on its own image, warmed as above, and take turns at starting.
+";
+
 /// The panels of one axis: one for each of the calls that are plotted. A point is its place on
 /// the axis and its setting.
 fn panels(
@@ -183,11 +226,16 @@ fn main() {
         }
     }
     let Some(folder) = arguments.first() else {
-        eprintln!("usage: bench FOLDER [quick] | calls B LOAD FOLDER");
+        eprintln!("usage: bench FOLDER [quick] | rows [quick] | calls B LOAD FOLDER");
         std::process::exit(2);
     };
+    let quick = arguments.get(1).is_some_and(|word| word == "quick");
+    if folder == "rows" {
+        let table = rows_table(quick).expect("a build with the feature `rows`");
+        return print!("{table}");
+    }
     let mut results = Results {
-        quick: arguments.get(1).is_some_and(|word| word == "quick"),
+        quick,
         ..Results::default()
     };
 
@@ -198,6 +246,7 @@ fn main() {
             report += &table(Setting { b, load }, times);
         }
     }
+    report += &rows_table(quick).unwrap_or_default();
 
     let loads = [10, 20, 30, 40, 50, 60, 70, 80, 90, 95];
     let over_load: Vec<_> = loads.map(|load| (load, 113, load)).to_vec();

@@ -97,13 +97,13 @@ fn processor_time() -> f64 {
 }
 
 /// Time since the first call, in ns.
-fn wall_time() -> f64 {
+pub fn wall_time() -> f64 {
     static START: LazyLock<Instant> = LazyLock::new(Instant::now);
     START.elapsed().as_nanos() as f64
 }
 
 /// Runs a batch: its result and its time in ns.
-fn timed<T>(clock: fn() -> f64, batch: impl FnOnce() -> T) -> (T, f64) {
+pub fn timed<T>(clock: fn() -> f64, batch: impl FnOnce() -> T) -> (T, f64) {
     let start = clock();
     let result = black_box(batch());
     (result, clock() - start)
@@ -144,7 +144,7 @@ fn measure(
     Some((result?, ns))
 }
 
-fn median(mut values: Vec<f64>) -> Option<f64> {
+pub fn median(mut values: Vec<f64>) -> Option<f64> {
     values.sort_by(f64::total_cmp);
     values.get(values.len() / 2).copied()
 }

@@ -1,11 +1,12 @@
 //! The calls of other implementations, compared with those of the model.
 
-use model::catalogue::Catalogue;
+use model::catalogue::{Catalogue, Entry, Model};
 use model::fingerprint::Fingerprint;
 use model::histories::{self, Kind, KINDS};
 use model::prepare::Player;
 use model::random::Random;
-use model::shape::Shape;
+use model::rows::Rows;
+use model::shape::{Shape, BUCKET};
 use model::stored::{Images, Line};
 
 /// Unverified Rust.
@@ -26,6 +27,9 @@ impl Catalogue for Fast {
     }
     fn ask(&self, image: &[u8], hash: u64) -> u64 {
         fast::ask(image, hash)
+    }
+    fn row(&self, _: &[u8], _: &mut [Entry]) -> Option<u64> {
+        None
     }
     fn count(&self, image: &[u8], hash: u64) -> u64 {
         fast::count(image, hash)
@@ -59,6 +63,14 @@ impl Catalogue for Capi {
     fn ask(&self, image: &[u8], hash: u64) -> u64 {
         breadcrumb::packed::ask(image, hash)
     }
+    fn row(&self, image: &[u8], row: &mut [Entry]) -> Option<u64> {
+        let mut lent: Vec<breadcrumb::Entry> = row.iter().map(to_lend).collect();
+        let answer = breadcrumb::packed::row(image, &mut lent);
+        for (entry, lent) in row.iter_mut().zip(lent) {
+            *entry = lent_back(lent);
+        }
+        Some(answer)
+    }
     fn count(&self, image: &[u8], hash: u64) -> u64 {
         breadcrumb::packed::count(image, hash)
     }
@@ -70,12 +82,40 @@ impl Catalogue for Capi {
     }
 }
 
+#[cfg(feature = "capi")]
+fn to_lend(entry: &Entry) -> breadcrumb::Entry {
+    breadcrumb::Entry {
+        hash: entry.hash,
+        reads: entry.reads,
+        place: entry.place,
+        slot: entry.slot,
+        copies: entry.copies,
+    }
+}
+
+#[cfg(feature = "capi")]
+fn lent_back(entry: breadcrumb::Entry) -> Entry {
+    Entry {
+        hash: entry.hash,
+        reads: entry.reads,
+        place: entry.place,
+        slot: entry.slot,
+        copies: entry.copies,
+    }
+}
+
+/// Once in so many calls a row is asked beside the history.
+const CALLS_A_ROW: u64 = 4;
+
 /// An implementation that performs every line that the model performs.
 pub struct Follower<'a> {
     catalogue: &'a dyn Catalogue,
     images: Images,
+    rows: Rows,
     /// Calls compared: their answers, and every byte of images and output.
     pub compared: u64,
+    /// Rows compared beside them: their answers, and every byte of entries and image.
+    pub rows_compared: u64,
 }
 
 impl<'a> Follower<'a> {
@@ -83,13 +123,16 @@ impl<'a> Follower<'a> {
         Follower {
             catalogue,
             images: Images::default(),
+            rows: Rows::new(0),
             compared: 0,
+            rows_compared: 0,
         }
     }
 
     /// Performs a line and compares; `expected` are the model's images after it.
     fn follow(&mut self, line: Line, answer: u64, expected: &Images) {
         let got = self.images.perform(self.catalogue, line);
+        self.rows.tell(line);
         if !line.is_call() {
             return;
         }
@@ -97,17 +140,61 @@ impl<'a> Follower<'a> {
         assert_eq!(got, answer, "answer {got:016X} for {answer:016X}: {text}");
         assert_eq!(self.images.out, expected.out, "the output: {text}");
         for x in line.images() {
-            let (ours, theirs) = (&self.images.image[x], &expected.image[x]);
-            if ours != theirs {
-                let at = ours.iter().zip(theirs).position(|(a, b)| a != b);
-                panic!("image {x} differs from byte {at:?} on: {text}");
-            }
+            self.same_image(x, expected, &text);
         }
         self.compared += 1;
+        if self.rows.is_due(CALLS_A_ROW) {
+            let x = line.images()[0];
+            self.rows_on(x, expected, &format!("a row after {text}"));
+        }
+    }
+
+    fn same_image(&self, x: usize, expected: &Images, text: &str) {
+        let (ours, theirs) = (&self.images.image[x], &expected.image[x]);
+        if ours != theirs {
+            let at = ours.iter().zip(theirs).position(|(a, b)| a != b);
+            panic!("image {x} differs from byte {at:?} on: {text}");
+        }
+    }
+
+    /// A row on an image as it is, and on the same with a bucket of zeros, which is unsound.
+    fn rows_on(&mut self, x: usize, expected: &Images, text: &str) {
+        let row = self.rows.row(&expected.image[x]);
+        self.row(x, &row, text);
+        let shape = Shape::of_length(expected.image[x].len());
+        if let Some(table) = shape.and_then(|shape| self.rows.table(&row, shape)) {
+            let at = table as usize * BUCKET;
+            let bucket = at..at + BUCKET;
+            self.images.image[x][bucket.clone()].fill(0);
+            self.row(x, &row, text);
+            assert_eq!(self.images.image[x][bucket.clone()], [0; BUCKET], "{text}");
+            self.images.image[x][bucket.clone()].copy_from_slice(&expected.image[x][bucket]);
+        }
+        self.same_image(x, expected, text);
+    }
+
+    /// One row, by the implementation and by the model.
+    fn row(&mut self, x: usize, row: &[Entry], text: &str) {
+        let image = &self.images.image[x];
+        let (mut ours, mut theirs) = (row.to_vec(), row.to_vec());
+        let Some(got) = self.catalogue.row(image, &mut ours) else {
+            return;
+        };
+        let answer = Model.row(image, &mut theirs).expect("the model has rows");
+        let n = row.len();
+        assert_eq!(
+            got, answer,
+            "answer {got:016X} for {answer:016X}, {n} entries: {text}"
+        );
+        for (at, (ours, theirs)) in ours.iter().zip(&theirs).enumerate() {
+            assert_eq!(ours, theirs, "entry {at} of {n}: {text}");
+        }
+        self.rows_compared += 1;
     }
 
     /// A random history.
     pub fn history(&mut self, kind: Kind, b: u64, how_many: usize, seed: u64) {
+        self.rows = Rows::new(seed);
         let mut observer = |line: Line, answer: u64, images: &Images| {
             self.follow(line, answer, images);
         };

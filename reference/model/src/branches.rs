@@ -1,12 +1,13 @@
 //! The branches of the machine that a call takes, by name.
 //!
-//! The stored calls must take every one of `ALL`.
+//! The stored calls must take every one of `ALL`, the random rows every one of `ROWS`.
 
 use crate::bucket::{Bytes, Member};
-use crate::calls::{bag, members, read_backyard, read_front, Bag};
+use crate::calls::{self, bag, members, read_backyard, read_front, Asked, Bag, Place};
 use crate::fingerprint::Fingerprint;
 use crate::shape::{Shape, BUCKET};
 use crate::stored::{Images, Line};
+use std::collections::HashSet;
 
 pub const ALL: &[&str] = &[
     "fresh: 1",
@@ -159,6 +160,38 @@ pub const ALL: &[&str] = &[
     "unsound: backyard, choice 0 invalid",
     "unsound: backyard, choice 1 invalid, e at least 8",
     "unsound: backyard, choice 1 invalid, past B",
+];
+
+pub const ROWS: &[&str] = &[
+    "row: 1",
+    "row: 1, empty",
+    "row: 10",
+    "row: 10, an ask alone is refused",
+    "row: 10, an ask alone before the descent is refused",
+    "row: 3 in front",
+    "row: 3 in b0",
+    "row: 3 in b1",
+    "row: 3, the first ask",
+    "row: 3, in the first group",
+    "row: 3, after other groups",
+    "row: 3, after others in its group",
+    "row: 3, more behind it",
+    "row: accepted, empty",
+    "row: accepted, hundreds",
+    "row: accepted, an unsound bucket not read",
+    "row: a group of one",
+    "row: a group of many",
+    "row: a group of many, equal reads",
+    "row: the greatest reads first in the group",
+    "row: the greatest reads within the group",
+    "row: the greatest reads last in the group",
+    "row: 1, 2 and 3 reads in one group",
+    "row: none, front, first and second in one row",
+    "row: one fingerprint twice",
+    "row: first, b0 = b1",
+    "row: second, b0 = b1",
+    "row: none, b0 = b1",
+    "row: groups with one backyard bucket",
 ];
 
 /// The names of one call, gathered.
@@ -419,6 +452,113 @@ fn ask(names: &mut Names, image: &[u8], hash: u64) {
         return;
     }
     names.add("ask: none, 3 reads");
+}
+
+fn row(names: &mut Names, image: &[u8], hashes: &[u64]) {
+    let Some(shape) = Shape::of_length(image.len()) else {
+        names.add("row: 1");
+        return names.add_if(hashes.is_empty(), "row: 1, empty");
+    };
+    let front = |hash: &u64| Fingerprint::of_hash(*hash, shape).front;
+    let fronts: Vec<u64> = hashes.iter().map(front).collect();
+    let asks: Vec<_> = hashes.iter().map(|&hash| calls::ask(image, hash)).collect();
+    let refused = asks.iter().position(Result::is_err);
+    if let Some(at) = (1..fronts.len()).find(|&at| fronts[at] < fronts[at - 1]) {
+        names.add("row: 10");
+        names.add_if(refused.is_some(), "row: 10, an ask alone is refused");
+        return names.add_if(
+            refused.is_some_and(|first| first < at),
+            "row: 10, an ask alone before the descent is refused",
+        );
+    }
+    if let Some(at) = refused {
+        let f = fronts[at];
+        let table = asks[at].unwrap_err().table.expect("a table number");
+        let first = shape.table_number(shape.first_home(f).bucket);
+        names.add(match table {
+            table if table == f => "row: 3 in front",
+            table if table == first => "row: 3 in b0",
+            _ => "row: 3 in b1",
+        });
+        names.add_if(at == 0, "row: 3, the first ask");
+        names.add(match fronts[0] == f {
+            true => "row: 3, in the first group",
+            false => "row: 3, after other groups",
+        });
+        names.add_if(
+            at > 0 && fronts[at - 1] == f,
+            "row: 3, after others in its group",
+        );
+        return names.add_if(at + 1 < hashes.len(), "row: 3, more behind it");
+    }
+    let asked: Vec<Asked> = asks.into_iter().flatten().collect();
+    names.add_if(hashes.is_empty(), "row: accepted, empty");
+    names.add_if(hashes.len() >= 200, "row: accepted, hundreds");
+    let unsound = |&f: &u64| read_front(image, f).is_err() || behind(image, shape, f).unsound();
+    names.add_if(
+        fronts.iter().any(unsound),
+        "row: accepted, an unsound bucket not read",
+    );
+    let place = |asked: &Asked| std::mem::discriminant(&asked.place);
+    let places: HashSet<_> = asked.iter().map(place).collect();
+    names.add_if(
+        places.len() == 4,
+        "row: none, front, first and second in one row",
+    );
+    let mut from = 0;
+    let mut groups: Vec<(u64, u64)> = Vec::new();
+    for same in fronts.chunk_by(|x, y| x == y) {
+        let to = from + same.len();
+        let greatest = group(names, shape, &hashes[from..to], &asked[from..to]);
+        groups.push((same[0], greatest));
+        from = to;
+    }
+    let read = groups.iter().filter(|(_, reads)| *reads > 1);
+    let homes: Vec<u64> = read.map(|&(f, _)| shape.first_home(f).bucket).collect();
+    names.add_if(
+        homes.windows(2).any(|pair| pair[0] == pair[1]),
+        "row: groups with one backyard bucket",
+    );
+}
+
+/// One group of a row: its greatest reads.
+fn group(names: &mut Names, shape: Shape, hashes: &[u64], asked: &[Asked]) -> u64 {
+    let fingerprint = |hash: &u64| Fingerprint::of_hash(*hash, shape);
+    let reads: Vec<u64> = asked.iter().map(|asked| asked.reads).collect();
+    let greatest = reads.iter().copied().max().expect("a group has an ask");
+    if reads.len() == 1 {
+        names.add("row: a group of one");
+    } else {
+        names.add("row: a group of many");
+        let (first, last) = (reads[0], reads[reads.len() - 1]);
+        let all_equal = reads.iter().all(|&reads| reads == greatest);
+        names.add(match greatest {
+            _ if all_equal => "row: a group of many, equal reads",
+            greatest if greatest == first => "row: the greatest reads first in the group",
+            greatest if greatest == last => "row: the greatest reads last in the group",
+            _ => "row: the greatest reads within the group",
+        });
+    }
+    names.add_if(
+        (1..=3).all(|n| reads.contains(&n)),
+        "row: 1, 2 and 3 reads in one group",
+    );
+    let distinct: HashSet<u64> = hashes
+        .iter()
+        .map(|hash| fingerprint(hash).number())
+        .collect();
+    names.add_if(distinct.len() < hashes.len(), "row: one fingerprint twice");
+    let f = fingerprint(&hashes[0]).front;
+    if shape.first_home(f).bucket == shape.second_home(f).bucket {
+        for asked in asked.iter().filter(|asked| asked.reads > 1) {
+            names.add(match asked.place {
+                Place::First(_) => "row: first, b0 = b1",
+                Place::Second(_) => "row: second, b0 = b1",
+                _ => "row: none, b0 = b1",
+            });
+        }
+    }
+    greatest
 }
 
 fn count(names: &mut Names, image: &[u8], hash: u64) {
@@ -729,6 +869,13 @@ fn merge(names: &mut Names, sources: [&[u8]; 2], target: &[u8], twice: bool, acc
             "merge: choice 0 becomes 1 where b0 = b1",
         );
     }
+}
+
+/// The branches that a row takes on an image.
+pub fn of_row(image: &[u8], hashes: &[u64]) -> Vec<String> {
+    let mut names = Names::default();
+    row(&mut names, image, hashes);
+    names.names
 }
 
 /// The branches that a line takes on these images. `accepted` tells whether it is accepted.

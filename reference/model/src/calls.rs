@@ -1,4 +1,4 @@
-//! The eight calls of document 01 on byte slices.
+//! The eight calls of document 01 on byte slices, and the row of asks of document 02.
 
 use crate::bucket::{self, Bytes, Member};
 use crate::fingerprint::Fingerprint;
@@ -25,6 +25,13 @@ pub enum Place {
 pub struct Asked {
     pub reads: u64,
     pub place: Place,
+}
+
+/// The answer of a row: what each of its asks gives, and the total.
+#[derive(Clone, PartialEq, Eq, Debug)]
+pub struct Rowed {
+    pub asked: Vec<Asked>,
+    pub total: u64,
 }
 
 #[derive(Clone, Copy, PartialEq, Eq, Debug)]
@@ -276,6 +283,29 @@ pub fn ask(image: &[u8], hash: u64) -> Result<Asked, Refusal> {
     Ok(Asked { reads: 3, place })
 }
 
+/// Lone asks. A group is the neighbours with the same front bucket, and counts as its greatest
+/// lone count of reads.
+pub fn row(image: &[u8], hashes: &[u64]) -> Result<Rowed, Refusal> {
+    let shape = sized(image)?;
+    let front = |hash: &u64| Fingerprint::of_hash(*hash, shape).front;
+    let fronts: Vec<u64> = hashes.iter().map(front).collect();
+    if fronts.windows(2).any(|pair| pair[1] < pair[0]) {
+        return refused(10);
+    }
+    let mut asked = Vec::new();
+    for &hash in hashes {
+        asked.push(ask(image, hash)?);
+    }
+    let mut total = 0;
+    let mut rest = &asked[..];
+    for group in fronts.chunk_by(|x, y| x == y) {
+        let (here, later) = rest.split_at(group.len());
+        total += here.iter().map(|asked| asked.reads).max().unwrap();
+        rest = later;
+    }
+    Ok(Rowed { asked, total })
+}
+
 pub fn count(image: &[u8], hash: u64) -> Result<Counted, Refusal> {
     let shape = sized(image)?;
     let g = Fingerprint::of_hash(hash, shape);
@@ -385,4 +415,70 @@ pub fn merge(first: &[u8], second: &[u8], target: &mut [u8]) -> Result<(), Refus
         }
     }
     Ok(())
+}
+
+#[cfg(test)]
+mod tests {
+    use super::*;
+    use crate::prepare::{fresh_image, hash_of};
+    use crate::random::Random;
+
+    const SHAPE: Shape = Shape { b: 3 };
+
+    fn hash(front: u64, tag: u64) -> u64 {
+        let g = Fingerprint {
+            front,
+            mini: 0,
+            tag,
+        };
+        hash_of(g, SHAPE, &mut Random::new(front + tag))
+    }
+
+    /// Front buckets 13 and 18 (b0 = b1) with 40 members each, tags from 0 up.
+    fn image() -> Vec<u8> {
+        let mut image = fresh_image(SHAPE.b);
+        for tag in 0..40 {
+            for front in [13, 18] {
+                insert(&mut image, hash(front, tag)).unwrap();
+            }
+        }
+        image
+    }
+
+    #[test]
+    fn rows() {
+        let image = image();
+        // Of 13, tag 0 is in front (1 read), 29 in First (2), 28 in Second (3), 40 nowhere (3).
+        let total = |asks: &[(u64, u64)]| {
+            let hashes: Vec<u64> = asks.iter().map(|&(front, tag)| hash(front, tag)).collect();
+            let row = row(&image, &hashes).unwrap();
+            let lone = hashes.iter().map(|&hash| ask(&image, hash).unwrap());
+            assert_eq!(row.asked, lone.collect::<Vec<_>>());
+            row.total
+        };
+        assert_eq!(total(&[]), 0);
+        assert_eq!(total(&[(5, 0)]), 1);
+        assert_eq!(total(&[(13, 0), (13, 28), (13, 29)]), 3);
+        assert_eq!(total(&[(13, 29), (13, 0)]), 2);
+        assert_eq!(total(&[(5, 0), (13, 29), (13, 0), (18, 0), (18, 40)]), 6);
+    }
+
+    #[test]
+    fn refused_rows() {
+        let mut image = image();
+        let refusal = |image: &[u8], hashes: &[u64]| {
+            let refusal = row(image, hashes).unwrap_err();
+            (refusal.number, refusal.table)
+        };
+        let ascending = [hash(5, 0), hash(13, 0), hash(13, 40), hash(18, 40)];
+        let descending = [hash(13, 40), hash(18, 40), hash(13, 0)];
+        assert_eq!(refusal(&image, &descending), (10, None));
+        for (table, byte) in [(24 + 2, 63), (24 + 5, 63), (24 + 1, 63), (13, 0), (5, 0)] {
+            image[64 * table + byte] ^= 1;
+            assert_eq!(refusal(&image, &ascending), (3, Some(table as u64)));
+            assert_eq!(refusal(&image, &descending), (10, None));
+        }
+        assert_eq!(refusal(&image[1..], &descending), (1, None));
+        assert_eq!(refusal(&image[1..], &[]), (1, None));
+    }
 }

@@ -1,10 +1,21 @@
-//! The eight calls as the C boundary has them: every answer is one 64-bit number,
+//! The calls as the C boundary has them: every answer is one 64-bit number,
 //! number × 2^56 + value, number 0 when accepted. The value of a refusal is its table number
 //! (3 and 8), else 0.
 
-use crate::calls::{self, Place, Refusal};
+use crate::calls::{self, Asked, Place, Refusal};
 
-/// An implementation of the eight calls.
+/// An ask in a row, its answer in numbers: place 0 none, 1 front, 2 first, 3 second, and slot 0
+/// where there is none. Copies are left alone.
+#[derive(Clone, Copy, PartialEq, Eq, Debug)]
+pub struct Entry {
+    pub hash: u64,
+    pub reads: u32,
+    pub place: u32,
+    pub slot: u32,
+    pub copies: u32,
+}
+
+/// An implementation of the calls.
 pub trait Catalogue {
     /// Value 0.
     fn fresh(&self, image: &mut [u8]) -> u64;
@@ -16,6 +27,8 @@ pub trait Catalogue {
     fn delete(&self, image: &mut [u8], hash: u64) -> u64;
     /// Value: reads + 16 × place + 256 × slot, place 0 none, 1 front, 2 first, 3 second.
     fn ask(&self, image: &[u8], hash: u64) -> u64;
+    /// Value: the total. Nothing where an implementation has no row.
+    fn row(&self, image: &[u8], row: &mut [Entry]) -> Option<u64>;
     /// Value: copies + 2^32 × reads.
     fn count(&self, image: &[u8], hash: u64) -> u64;
     /// Value: how many + 2^32 × next.
@@ -31,6 +44,16 @@ fn pack<T>(result: Result<T, Refusal>, value: impl Fn(T) -> u64) -> u64 {
     match result {
         Ok(answer) => value(answer),
         Err(refusal) => ((refusal.number as u64) << 56) + refusal.table.unwrap_or(0),
+    }
+}
+
+/// The numbers of a place and of its slot.
+fn numbers(asked: &Asked) -> (u64, u64) {
+    match asked.place {
+        Place::None => (0, 0),
+        Place::Front(slot) => (1, slot),
+        Place::First(slot) => (2, slot),
+        Place::Second(slot) => (3, slot),
     }
 }
 
@@ -53,14 +76,23 @@ impl Catalogue for Model {
 
     fn ask(&self, image: &[u8], hash: u64) -> u64 {
         pack(calls::ask(image, hash), |asked| {
-            let (place, slot) = match asked.place {
-                Place::None => (0, 0),
-                Place::Front(slot) => (1, slot),
-                Place::First(slot) => (2, slot),
-                Place::Second(slot) => (3, slot),
-            };
+            let (place, slot) = numbers(&asked);
             asked.reads + 16 * place + 256 * slot
         })
+    }
+
+    fn row(&self, image: &[u8], row: &mut [Entry]) -> Option<u64> {
+        let hashes: Vec<u64> = row.iter().map(|entry| entry.hash).collect();
+        let result = calls::row(image, &hashes);
+        if let Ok(rowed) = &result {
+            for (entry, asked) in row.iter_mut().zip(&rowed.asked) {
+                let (place, slot) = numbers(asked);
+                entry.reads = asked.reads as u32;
+                entry.place = place as u32;
+                entry.slot = slot as u32;
+            }
+        }
+        Some(pack(result, |rowed| rowed.total))
     }
 
     fn count(&self, image: &[u8], hash: u64) -> u64 {

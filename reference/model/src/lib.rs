@@ -1,7 +1,7 @@
 //! The second program: the breadcrumb catalogue as a plain machine on bags of fingerprints.
 //!
-//! It is written from document 01 alone and for correctness alone. A bucket is decoded to the
-//! list of its members, the bags are changed as the sentences say, and the bucket is encoded
+//! It is written from documents 01 and 02 alone and for correctness alone. A bucket is decoded to
+//! the list of its members, the bags are changed as the sentences say, and the bucket is encoded
 //! again. Nothing here is fast.
 //!
 //! The machine:
@@ -9,7 +9,7 @@
 //! - `fingerprint`: front bucket, mini-bucket and tag of a hash
 //! - `map`: from a front bucket to its two backyard buckets and back
 //! - `bucket`: the members of a bucket from its 64 bytes and back
-//! - `calls`: the eight calls
+//! - `calls`: the eight calls, and the row of asks
 //! - `catalogue`: the calls with the packed answers of the C boundary
 //! - `program`: the small program, lines to answers
 //!
@@ -17,6 +17,7 @@
 //! - `stored`: stored calls as lines of text, performed on three images
 //! - `prepare`: plays lines, makes hashes and buckets
 //! - `histories`: random histories
+//! - `rows`: random rows of asks beside them
 //! - `cases`: the calls that are stored for the program `trial`
 //! - `vectors`: calls of another model, replayed
 //! - `branches`: the branches of the machine that a call takes
@@ -33,6 +34,7 @@ pub mod map;
 pub mod prepare;
 pub mod program;
 pub mod random;
+pub mod rows;
 pub mod sha256;
 pub mod shape;
 pub mod stored;

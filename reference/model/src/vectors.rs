@@ -11,12 +11,14 @@
 //! count R HASH                                                    = 0 COPIES READS SHA
 //! page R S LENGTH      output entry i holds 2^64 - 1 - i before   = 0 HOW_MANY NEXT SHA SHA_OUTPUT
 //! merge R R2 R3        R3 is the target                           = 0 SHA SHA2 SHA3
+//! row R HASHES         an ENTRY is READS/PLACE/SLOT               = 0 TOTAL ENTRIES SHA
 //! ```
 //!
 //! A refusal has NUMBER, or NUMBER TABLE_NUMBER, in the place of 0 and the values. HASH and HEX
-//! are in hex, other numbers in base ten. SHA is the SHA-256 of the image after the call.
+//! are in hex, other numbers in base ten. HASHES and ENTRIES are joined by commas, `-` where there
+//! are none. SHA is the SHA-256 of the image after the call.
 
-use crate::catalogue::Catalogue;
+use crate::catalogue::{Catalogue, Entry};
 use crate::sha256::sha256;
 use std::collections::HashMap;
 
@@ -59,13 +61,48 @@ fn asked(value: u64) -> String {
     }
 }
 
+/// The entries that ask for these hashes; entry i holds 2^32 - 1 - i in its other fields.
+fn entries(hashes: &str) -> Vec<Entry> {
+    let entry = |(hash_text, old): (&str, u32)| Entry {
+        hash: hash(hash_text),
+        reads: old,
+        place: old,
+        slot: old,
+        copies: old,
+    };
+    let hashes = hashes.split(',').filter(|&word| word != "-");
+    hashes.zip((0..=u32::MAX).rev()).map(entry).collect()
+}
+
+/// The total and the answers of a row.
+fn rowed(total: u64, row: &[Entry]) -> String {
+    let answer = |entry: &Entry| match (entry.place, entry.slot) {
+        (0, 0) => format!("{}/0/-", entry.reads),
+        (place, slot) => format!("{}/{place}/{slot}", entry.reads),
+    };
+    let answers: Vec<String> = row.iter().map(answer).collect();
+    let entries = match row {
+        [] => "-".to_string(),
+        _ => answers.join(","),
+    };
+    format!(" {total} {entries}")
+}
+
+/// Whether a row kept what it must: all of it where it is refused, else hashes and copies.
+fn kept(answer: u64, before: &[Entry], row: &[Entry]) -> bool {
+    let rest = |row: &[Entry]| -> Vec<(u64, u32)> {
+        row.iter().map(|entry| (entry.hash, entry.copies)).collect()
+    };
+    rest(row) == rest(before) && (answer >> 56 == 0 || row == before)
+}
+
 /// Two values, the first in the lower 32 bits.
 fn pair(value: u64) -> String {
     format!(" {} {}", value % (1 << 32), value >> 32)
 }
 
-/// Performs one call: the text of its result.
-fn perform(catalogue: &dyn Catalogue, images: &mut Images, call: &str) -> String {
+/// Performs one call: the text of its result. Nothing where the catalogue has no such call.
+fn perform(catalogue: &dyn Catalogue, images: &mut Images, call: &str) -> Option<String> {
     let words: Vec<&str> = call.split(' ').collect();
     let nothing = |_| String::new();
     if words[0] == "merge" {
@@ -73,7 +110,7 @@ fn perform(catalogue: &dyn Catalogue, images: &mut Images, call: &str) -> String
         let answer = catalogue.merge(&images[words[1]], &images[words[2]], &mut target);
         images.insert(words[3].to_string(), target);
         let digests: Vec<String> = words[1..].iter().map(|r| sha256(&images[*r])).collect();
-        return format!("{} {}", text(answer, nothing), digests.join(" "));
+        return Some(format!("{} {}", text(answer, nothing), digests.join(" ")));
     }
     if words[0] == "new" {
         images.insert(words[1].to_string(), vec![0; number(words[2]) as usize]);
@@ -101,9 +138,18 @@ fn perform(catalogue: &dyn Catalogue, images: &mut Images, call: &str) -> String
             output_digest = format!(" {}", sha256(&written));
             text(answer, pair)
         }
+        "row" => {
+            let before = entries(words[2]);
+            let mut row = before.clone();
+            let answer = catalogue.row(image, &mut row)?;
+            match kept(answer, &before, &row) {
+                true => text(answer, |total| rowed(total, &row)),
+                false => "entries not kept".to_string(),
+            }
+        }
         other => panic!("no such call: {other}"),
     };
-    format!("{result} {}{output_digest}", sha256(image))
+    Some(format!("{result} {}{output_digest}", sha256(image)))
 }
 
 /// Replays a whole text.
@@ -117,7 +163,9 @@ pub fn replay(catalogue: &dyn Catalogue, lines: &str) -> Replayed {
             continue;
         }
         let (call, expected) = line.split_once(" = ").expect("CALL = RESULT");
-        let got = perform(catalogue, &mut images, call);
+        let Some(got) = perform(catalogue, &mut images, call) else {
+            continue;
+        };
         compared += 1;
         if got != expected {
             let at = at + 1;
@@ -139,12 +187,20 @@ mod tests {
     fn a_difference_is_seen() {
         let fresh = sha256(&crate::prepare::fresh_image(1));
         let good = format!(
-            "# a\nnew a 1024 = - {}\nfresh a = 0 {fresh}\ndelete a 1F = 5 {fresh}\nask a 1F = 0 1 0 - {fresh}\n",
+            "# a\n\
+             new a 1024 = - {}\n\
+             fresh a = 0 {fresh}\n\
+             delete a 1F = 5 {fresh}\n\
+             ask a 1F = 0 1 0 - {fresh}\n\
+             row a 1F,2F = 0 1 1/0/-,1/0/- {fresh}\n\
+             row a - = 0 0 - {fresh}\n",
             sha256(&[0; 1024])
         );
         let replayed = replay(&Model, &good);
-        assert_eq!((replayed.compared, replayed.differences.len()), (4, 0));
-        let wrong = good.replace("= 5", "= 4");
-        assert_eq!(replay(&Model, &wrong).differences.len(), 1);
+        assert_eq!((replayed.compared, replayed.differences.len()), (6, 0));
+        for (right, wrong) in [("= 5", "= 4"), ("1/0/- ", "1/1/0 ")] {
+            let wrong = good.replace(right, wrong);
+            assert_eq!(replay(&Model, &wrong).differences.len(), 1);
+        }
     }
 }

@@ -16,3 +16,10 @@ Sums w s = (j : ℕ) → j < 8 → s / 2 ^ (8 * j) % 256 ≡ onesIn (8 * j) w
 -- a step of `width` bits is taken where the rank is at least `sum`
 abbrev pub Stepped : ℕ → ℕ → ℕ → ℕ → ℕ → Type 0
 Stepped sum rank place width r = ((sum ≤ rank) × (r ≡ place + width)) ⊎ ((rank < sum) × (r ≡ place))
+
+-- the rank stands in the `span` bits from `place` on, or behind the last
+pub record Near (w rank place span : ℕ) : Type 0 where
+  pub whole : place % 8 ≡ 0
+  pub room : place + span ≤ 64
+  pub passed : onesIn place w ≤ rank
+  pub ahead : place + span < 64 → rank < onesIn (place + span) w

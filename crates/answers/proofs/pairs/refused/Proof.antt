@@ -27,10 +27,14 @@ returns-7 c = rw (c .enum-told6 .given .1)
 returns-8 : tie.Need-returns-8
 returns-8 c = rw (c .before .why2 .given .1)
 
+returns-9 : tie.Need-returns-9
+returns-9 c = rw (c .enum-told7 .given .1)
+
 pub refused-spec : {M : Type 1} → statement M
 refused-spec =
     tie.close
     (tie.spec
+    (λ c. search needs)
     (λ c. search needs)
     (λ c. search needs)
     (λ c. search needs)
@@ -46,4 +50,5 @@ refused-spec =
     returns-5
     returns-6
     returns-7
-    returns-8)
+    returns-8
+    returns-9)

@@ -1,9 +1,6 @@
 -- `asked` gives reads, place and slot in one number, or the refusal.
 use native.Mathlib.Omega.{arith}
 use mathlib.Core.Path.{_∙_}
-use Rattle.answers.specs.Pairs.{itself}
-use Rattle.answers.proofs.PairLaws.{said-refusal}
-use Rattle.capi.specs.Packing.{askWord}
 use Rattle.capi.proofs.ResultLaws.{within-accepted}
 use borrow.Author.Needs.{needs}
 use Rattle.capi.proofs.pack.asked.Statement.{statement}
@@ -21,7 +18,7 @@ returns : tie.Need-returns
 returns c = rw (c .before .before .before .given .given .1, c .place-word .ensures)
 
 returns-2 : tie.Need-returns-2
-returns-2 c = c .refused .ensures ∙ rw (c .before .before .given2 .given .1) (said-refusal itself askWord (c .before .before .given2 .given .0 .0))
+returns-2 c = c .refused .ensures ∙ rw (c .before .before .given2 .given .1)
 
 pub asked-spec : {M : Type 1} → statement M
 asked-spec =

@@ -1,9 +1,6 @@
 -- `counted` gives copies and reads in one number, or the refusal.
 use native.Mathlib.Omega.{arith}
 use mathlib.Core.Path.{_∙_}
-use Rattle.answers.specs.Pairs.{itself}
-use Rattle.answers.proofs.PairLaws.{said-refusal}
-use Rattle.capi.specs.Packing.{countWord}
 use Rattle.capi.proofs.ResultLaws.{within-accepted}
 use borrow.Author.Needs.{needs}
 use Rattle.capi.proofs.pack.counted.Statement.{statement}
@@ -16,7 +13,7 @@ returns : tie.Need-returns
 returns c = rw (c .before .before .given .given .1)
 
 returns-2 : tie.Need-returns-2
-returns-2 c = c .refused .ensures ∙ rw (c .before .before .given2 .given .1) (said-refusal itself countWord (c .before .before .given2 .given .0 .0))
+returns-2 c = c .refused .ensures ∙ rw (c .before .before .given2 .given .1)
 
 pub counted-spec : {M : Type 1} → statement M
 counted-spec =

@@ -1,8 +1,5 @@
 -- `done` gives 0, or the refusal.
 use mathlib.Core.Path.{_∙_}
-use Rattle.answers.specs.Pairs.{itself}
-use Rattle.answers.proofs.PairLaws.{said-refusal}
-use Rattle.capi.specs.Packing.{nothing}
 use borrow.Author.Needs.{needs}
 use Rattle.capi.proofs.pack.done.Statement.{statement}
 use Rattle.capi.proofs.pack.done.Tie as tie
@@ -11,7 +8,7 @@ returns : tie.Need-returns
 returns c = rw (c .enum-told .given .1)
 
 returns-2 : tie.Need-returns-2
-returns-2 c = c .refused .ensures ∙ rw (c .before .before .given .given .1) (said-refusal itself nothing (c .before .before .given .given .0 .0))
+returns-2 c = c .refused .ensures ∙ rw (c .before .before .given .given .1)
 
 pub done-spec : {M : Type 1} → statement M
 done-spec = tie.close (tie.spec (λ c. search needs) (λ c. search needs) (λ c κs. search needs) returns returns-2)

@@ -1,8 +1,5 @@
 -- `counted` gives the copies, or the refusal.
 use mathlib.Core.Path.{_∙_}
-use Rattle.answers.specs.Pairs.{itself}
-use Rattle.answers.proofs.PairLaws.{said-refusal}
-use Rattle.frame.specs.Frames.{copiesValue}
 use borrow.Author.Needs.{needs}
 use Rattle.frame.proofs.perform.counted.Statement.{statement}
 use Rattle.frame.proofs.perform.counted.Tie as tie
@@ -11,7 +8,7 @@ returns : tie.Need-returns
 returns c = rw (c .before .given .given .1)
 
 returns-2 : tie.Need-returns-2
-returns-2 c = c .refused .ensures ∙ rw (c .before .before .given2 .given .1) (said-refusal itself copiesValue (c .before .before .given2 .given .0 .0))
+returns-2 c = c .refused .ensures ∙ rw (c .before .before .given2 .given .1)
 
 pub counted-spec : {M : Type 1} → statement M
 counted-spec =

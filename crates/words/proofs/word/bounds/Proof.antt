@@ -14,33 +14,33 @@ use Rattle.words.proofs.word.bounds.Tie as tie
 
 -- the mini-bucket's first slot
 abbrev from : (c : tie.After-first-place) → ℕ
-from c = below (c .before .before .args .mini) (minisIn 64 (layout1 .minis) (c .before .before .args .word))
+from c = below (c .before .args .mini) (minisIn 64 (layout1 .minis) (c .before .args .word))
 
-from-le : (c : tie.After-first-place) → from c ≤ below (suc (c .before .before .args .mini)) (minisIn 64 (layout1 .minis) (c .before .before .args .word))
-from-le c = let a = c .before .before .args in omega (arith, below-suc (a .mini) (minisIn 64 (layout1 .minis) (a .word)))
+from-le : (c : tie.After-first-place) → from c ≤ below (suc (c .before .args .mini)) (minisIn 64 (layout1 .minis) (c .before .args .word))
+from-le c = let a = c .before .args in omega (arith, below-suc (a .mini) (minisIn 64 (layout1 .minis) (a .word)))
 
 -- the first bit is one of the 64
 place-lt : (c : tie.After-first-place) → c .first-place .result < 64
 place-lt c =
-    let s = c .before .before in
-    omega (arith, place-minisIn 64 (layout1 .minis) (s .args .word) (s .args .mini) (s .fits .word .fits) (s .pre .1) (s .pre .2) (from c) (from-le c))
+    let s = c .before in
+    omega (arith, place-minisIn 64 (layout1 .minis) (s .args .word) (s .args .mini) (s .fits .word .fits) (s .pre .full) (s .pre .within) (from c) (from-le c))
 
 shr-past : tie.Need-shr-past
 shr-past c = place-lt c
 
 add-past : tie.Need-add-past
-add-past c = omega (arith, place-lt c, trailing-le 64 (c .before .before .args .word / 2 ^ (c .first-place .result)))
+add-past c = omega (arith, place-lt c, trailing-le 64 (c .before .args .word / 2 ^ (c .first-place .result)))
 
 cast-t11 : tie.Need-cast-t11
-cast-t11 c = omega (arith, place-lt c, trailing-le 64 (c .before .before .args .word / 2 ^ (c .first-place .result)))
+cast-t11 c = omega (arith, place-lt c, trailing-le 64 (c .before .args .word / 2 ^ (c .first-place .result)))
 
 returns : tie.Need-returns
 returns c =
-    let s = c .before .before in
+    let s = c .before in
     let at : c .first-place .result - s .args .mini ≡ from c = omega arith in (
       at,
       rw (at, c .first-place .ensures)
-          (rest-minisIn 64 (layout1 .minis) (s .args .word) (s .args .mini) (s .fits .word .fits) (s .pre .1) (s .pre .2) (from c) (omega arith) (from-le c)),
+          (rest-minisIn 64 (layout1 .minis) (s .args .word) (s .args .mini) (s .fits .word .fits) (s .pre .full) (s .pre .within) (from c) (omega arith) (from-le c)),
     )
 
 pub bounds-spec : {M : Type 1} → statement M

@@ -1,0 +1,2 @@
+-- What the steps of a row ask and say.
+pub mod Steps

@@ -1,0 +1,281 @@
+-- A row swept twice is the row of the machine, for any layout. Main results: each entry is ready in its turn (`first-ready`, `second-ready`), and what
+-- two sweeps leave (`both-swept`).
+use mathlib.Core.Path.{_≡_, refl, sym, _∙_, ap}
+use Prim.Native.Nat.{ℕ, _+_, _-_, _^_, max}
+use mathlib.Core.Bool.{Bool, true, false, cond}
+use mathlib.Core.List.{List, [], _∷_, map}
+use mathlib.Core.Option.{Option, none, some}
+use native.Mathlib.Omega.{arith}
+use lib.ListN.{length}
+use lib.Dec.{eqb, ltb}
+use borrow.Author.Tests.{ltb-true, ltb-false, ne-eqb}
+use Rattle.multiset.specs.Multisets.{Below}
+use Rattle.crumbmap.specs.Layouts.{Layout}
+use Rattle.crumbmap.specs.Fingerprints.{frontOf, keyOf}
+use Rattle.buckets.specs.Buckets.{Fits64}
+use Rattle.machine.specs.Results.{Result, accepted, refused, andThen}
+use Rattle.machine.specs.Images.{sizeOf}
+use Rattle.machine.specs.Machine.{Asked, askAt}
+use Rattle.machine.specs.Rows.{Row, Group, descends, joined, groups, sum, asksOf, rowOf}
+use Rattle.machine.proofs.AcceptedLaws.{never-refused}
+use Rattle.machine.proofs.RowLaws.{apart, alike, least, unopened, ask-at, ask-refused, row-answered, asks-split}
+use Rattle.answers.specs.Rows.{hashes, receivedOf, receivedAll, entriesOf, rowedOf, totalOf, Rows}
+use Rattle.answers.specs.declared.Entry.{Entry}
+use Rattle.answers.specs.declared.RowResult.{RowResult}
+use Rattle.image.specs.Steps.ImageReads.{Whole}
+use Rattle.image.proofs.ImageReadLaws.{whole-of}
+use Rattle.grouping.specs.Steps.Grouping.{Bytes, held, sharing, descended, passed, advanced, tested, Known, told, turned, begun, resumed, outcomeOf}
+use Rattle.grouping.specs.declared.State.{State}
+use Rattle.grouping.proofs.GroupLaws.{of-tested, known-begun, known-tested}
+use Rattle.rows.specs.Steps.Sweeps.{stateAfter, rowAfter, AllReady, testedState, testedRow, toldState, toldRow}
+
+-- ---- sums
+
+-- what an ask of front bucket f with n reads adds: those that its group has read besides, then what the rest adds to them
+adds : (s : State) (f n : ℕ) (gs : List Group) → ltb f (s .front) ≡ false
+    → sum (joined (s .front) (s .reads) (joined f n gs)) - s .reads
+    ≡ max (held s f) n - held s f + (sum (joined f (max (held s f) n) gs) - max (held s f) n)
+adds s f n gs d = go (ltb (s .front) f) refl
+  where
+    rest : ℕ → ℕ
+    rest m = max m n - m + (sum (joined f (max m n) gs) - max m n)
+
+    go : (b : Bool) → ltb (s .front) f ≡ b → sum (joined (s .front) (s .reads) (joined f n gs)) - s .reads ≡ rest (cond b 0 (s .reads))
+    go true e =
+        let z : max 0 n ≡ n = omega arith in
+        rw z (omega (arith, apart (s .front) (s .reads) f n gs (ne-eqb (s .front) f (λ q. omega (arith, ltb-true (s .front) f e))), least f n gs))
+    go false e =
+        let same : s .front ≡ f = omega (arith, ltb-false f (s .front) d, ltb-false (s .front) f e) in
+        rw same (omega (arith, alike f (s .reads) n gs, least f (max (s .reads) n) gs))
+
+-- two ways that come to one
+either : {A : Type 0} (b : Bool) (x : A) → cond b x x ≡ x
+either true x = refl
+either false x = refl
+
+-- ---- a sweep in each phase
+
+module _ (L : Layout) (img : List ℕ) where
+  -- the state after hashes that are tested
+  abbrev runs : State → List ℕ → State
+  runs s [] = s
+  runs s (k ∷ ks) = runs (tested L img s k) ks
+
+  -- a test changes neither phase nor size
+  advanced-keeps : (s : State) (f : ℕ) (r : Result ℕ) → (advanced L img s f r .phase ≡ s .phase) × (advanced L img s f r .size ≡ s .size)
+  advanced-keeps s f (accepted n) = (refl, refl)
+  advanced-keeps s f (refused n i) = (refl, refl)
+
+  tested-keeps : (s : State) (k : ℕ) → (tested L img s k .phase ≡ s .phase) × (tested L img s k .size ≡ s .size)
+  tested-keeps s k =
+      let f = frontOf (s .size) k in
+      of-tested L img s f (keyOf L k) (λ t. (t .phase ≡ s .phase) × (t .size ≡ s .size))
+      (λ d. (refl, refl)) (λ d e. advanced-keeps s f (sharing L (s .size) f (keyOf L k) img (held s f))) (λ d e. (refl, refl))
+
+  runs-size : (ks : List ℕ) (s : State) → runs s ks .size ≡ s .size
+  runs-size [] s = refl
+  runs-size (k ∷ ks) s = runs-size ks (tested L img s k) ∙ tested-keeps s k .1
+
+  -- a turn
+  testing : (s : State) (e : Entry) → s .phase ≡ 0 → turned L img s e ≡ record { state = tested L img s (e .hash); entry = e }
+  unfolding turned
+  testing s e h = rw h
+
+  telling : (s : State) (e : Entry) → s .phase ≡ 1 → turned L img s e ≡ record { state = s; entry = told L img e }
+  unfolding turned
+  telling s e h = rw h
+
+  passing : (s : State) (e : Entry) → s .phase ≡ 2 → turned L img s e ≡ record { state = s; entry = e }
+  unfolding turned
+  passing s e h = rw h
+
+  -- a sweep
+  all-tested : (es : List Entry) (s : State) → s .phase ≡ 0 → (stateAfter L img s es ≡ runs s (hashes es)) × (rowAfter L img s es ≡ es)
+  all-tested [] s h = (refl, refl)
+  all-tested (e ∷ es) s h =
+      let r = all-tested es (tested L img s (e .hash)) (tested-keeps s (e .hash) .0 ∙ h) in
+      rw (testing s e h) (r .0, ap (λ (l : List Entry). e ∷ l) (r .1))
+
+  all-told : (es : List Entry) (s : State) → s .phase ≡ 1 → (stateAfter L img s es ≡ s) × (rowAfter L img s es ≡ map (told L img) es)
+  all-told [] s h = (refl, refl)
+  all-told (e ∷ es) s h = let r = all-told es s h in rw (telling s e h) (r .0, ap (λ (l : List Entry). told L img e ∷ l) (r .1))
+
+  all-passed : (es : List Entry) (s : State) → s .phase ≡ 2 → (stateAfter L img s es ≡ s) × (rowAfter L img s es ≡ es)
+  all-passed [] s h = (refl, refl)
+  all-passed (e ∷ es) s h = let r = all-passed es s h in rw (passing s e h) (r .0, ap (λ (l : List Entry). e ∷ l) (r .1))
+
+  -- ---- readiness
+
+  -- in a row that is refused, and in one that is tested
+  passed-ready : (es : List Entry) (s : State) → s .phase ≡ 2 → AllReady L img s es
+  passed-ready [] s h = tt
+  passed-ready (e ∷ es) s h = (record { testing = λ z. absurd (omega arith); telling = λ z. absurd (omega arith) }, λ small. rw (passing s e h) (passed-ready es s h))
+
+  tested-ready : Fits64 L → (es : List Entry) (s : State) → (Bytes img → Known L img s) → s .phase ≡ 0 → AllReady L img s es
+  tested-ready fits [] s known h = tt
+  tested-ready fits (e ∷ es) s known h = (
+    record { testing = λ z. known; telling = λ z. absurd (omega arith) },
+    λ small. rw (testing s e h)
+        (tested-ready fits es (tested L img s (e .hash)) (λ bytes. known-tested fits bytes (known bytes) (e .hash) small) (tested-keeps s (e .hash) .0 ∙ h)),
+  )
+
+  -- ---- what the first sweep comes to
+
+  -- the refusal that a state tells of
+  abbrev refusalOf : State → Result ℕ
+  refusalOf s = cond (eqb (s .number) 1) (refused 1 0) (cond (eqb (s .number) 10) (refused 10 0) (refused 3 (s .table)))
+
+  -- the total with the asks that are still to come: the open group stands before their groups
+  abbrev totalled : State → List ℕ → List Asked → ℕ
+  totalled s fs rs = s .total + (sum (joined (s .front) (s .reads) (groups fs rs)) - s .reads)
+
+  -- the result that is to come
+  abbrev awaited : State → List ℕ → Result ℕ
+  awaited s ks =
+      let fs : List ℕ = map (frontOf (s .size)) ks in
+      cond (descends (s .front) fs) (refused 10 0)
+      (cond (eqb (s .number) 0) (andThen (asksOf L img ks) λ rs. accepted (totalled s fs rs)) (refusalOf s))
+
+  -- an entry in its order, before any refusal, where the claim holds of those behind it
+  module _ (k : ℕ) (ks : List ℕ) (s : State) (e : sizeOf (length img) ≡ some (s .size)) (d : ltb (frontOf (s .size) k) (s .front) ≡ false)
+      (z : eqb (s .number) 0 ≡ true) (rest : (t : State) → sizeOf (length img) ≡ some (t .size) → outcomeOf (runs t ks) ≡ awaited t ks) where
+    advanced-outcome : (r : Result Asked) → askAt L (s .size) (frontOf (s .size) k) (keyOf L k) img ≡ r
+        → outcomeOf (runs (advanced L img s (frontOf (s .size) k) (andThen r λ a. accepted (max (held s (frontOf (s .size) k)) (a .reads)))) ks)
+        ≡ awaited s (k ∷ ks)
+    unfolding asksOf
+    advanced-outcome (accepted a) h = rest t e ∙ rw (d, z, ask-at L img e k, h) (ap (cond (descends f fs) (refused 10 0)) (go (asksOf L img ks)))
+      where
+        f : ℕ
+        f = frontOf (s .size) k
+
+        fs : List ℕ
+        fs = map (frontOf (s .size)) ks
+
+        t : State
+        t = advanced L img s f (accepted (max (held s f) (a .reads)))
+
+        go : (q : Result (List Asked)) → andThen q (λ rs. accepted (totalled t fs rs))
+            ≡ andThen (andThen q λ rs. accepted (a ∷ rs)) (λ rs. accepted (totalled s (f ∷ fs) rs))
+        go (accepted rs) = ap accepted (omega (arith, adds s f (a .reads) (groups fs rs) d))
+        go (refused n i) = refl
+    advanced-outcome (refused n i) h =
+        let f = frontOf (s .size) k in
+        rest (advanced L img s f (refused n i)) e ∙ rw (d, z, ask-at L img e k, h, ask-refused L (s .size) f (keyOf L k) img h .0)
+
+  -- the result is the one that was to come
+  runs-outcome : (ks : List ℕ) (s : State) → sizeOf (length img) ≡ some (s .size) → outcomeOf (runs s ks) ≡ awaited s ks
+  unfolding asksOf
+  runs-outcome [] s e = let t : totalled s [] [] ≡ s .total = omega arith in rw t
+  runs-outcome (k ∷ ks) s e =
+      let f = frontOf (s .size) k in
+      of-tested L img s f (keyOf L k) (λ t. outcomeOf (runs t ks) ≡ awaited s (k ∷ ks))
+      (λ d. runs-outcome ks (descended L s f) e ∙ rw d (either (descends f (map (frontOf (s .size)) ks)) (refused 10 0)))
+      (λ d z. advanced-outcome k ks s e d z (runs-outcome ks) (askAt L (s .size) f (keyOf L k) img) refl)
+      (λ d z. runs-outcome ks (passed L s f) e ∙ rw (d, z))
+
+  -- entries whose asks are accepted receive their answers, and are ready to
+  told-all : (es : List Entry) {rs : List Asked} → asksOf L img (hashes es) ≡ accepted rs → map (told L img) es ≡ receivedAll es rs
+  told-all [] e = refl
+  told-all (e ∷ es) q =
+      let p = asks-split L img (e .hash) (hashes es) q in
+      rw (p .4, p .2) (ap (λ (l : List Entry). receivedOf e (p .0) ∷ l) (told-all es (p .3)))
+
+  told-ready : (es : List Entry) {rs : List Asked} → asksOf L img (hashes es) ≡ accepted rs → (s : State) → s .phase ≡ 1 → Whole (s .size) img
+      → AllReady L img s es
+  told-ready [] q s h w = tt
+  told-ready (e ∷ es) q s h w =
+      let p = asks-split L img (e .hash) (hashes es) q in (
+        record { testing = λ z. absurd (omega arith); telling = λ z. (w, rw (p .2)) },
+        λ small. rw (telling s e h) (told-ready es (p .3) s h w),
+      )
+
+  -- ---- two sweeps
+
+  -- the first leaves the row as it is, and comes to the machine's result
+  sized-outcome : {B : ℕ} → sizeOf (length img) ≡ some B → (ks : List ℕ) → outcomeOf (runs (begun (some B)) ks) ≡ totalOf (rowOf L img ks)
+  unfolding rowOf
+  sized-outcome {B} e ks = runs-outcome ks (begun (some B)) e ∙ rw e (go (descends 0 (map (frontOf B) ks)) (asksOf L img ks))
+    where
+      fs : List ℕ
+      fs = map (frontOf B) ks
+
+      go : (b : Bool) (q : Result (List Asked)) → cond b (refused 10 0) (andThen q λ rs. accepted (totalled (begun (some B)) fs rs))
+          ≡ totalOf (cond b (refused 10 0) (andThen q λ rs. accepted (record { answers = rs; total = sum (groups fs rs) })))
+      go true q = refl
+      go false (accepted rs) = ap accepted (omega (arith, unopened (groups fs rs)))
+      go false (refused n i) = refl
+
+  first-swept : (es : List Entry) (o : Option ℕ) → sizeOf (length img) ≡ o
+      → (outcomeOf (stateAfter L img (begun o) es) ≡ totalOf (rowOf L img (hashes es))) × (rowAfter L img (begun o) es ≡ es)
+  unfolding rowOf
+  first-swept es none e = let p = all-passed es (begun none) refl in (rw (p .0, e), p .1)
+  first-swept es (some B) e = let p = all-tested es (begun (some B)) refl in (ap outcomeOf (p .0) ∙ sized-outcome e (hashes es), p .1)
+
+  first-size : (es : List Entry) {B : ℕ} → sizeOf (length img) ≡ some B → stateAfter L img (begun (sizeOf (length img))) es .size ≡ B
+  first-size es {B} e = rw (e, all-tested es (begun (some B)) refl .0) (runs-size (hashes es) (begun (some B)))
+
+  -- the second leaves the state as it is, and the row too where it is refused
+  second-swept : (b : Bool) (es : List Entry) (s : State) → s .phase ≡ cond b 1 2
+      → (stateAfter L img s es ≡ s) × (rowAfter L img s es ≡ cond b (map (told L img) es) es)
+  second-swept true es s h = all-told es s h
+  second-swept false es s h = all-passed es s h
+
+  -- a refusal is no answer
+  refusal-never : (s : State) {n : ℕ} → refusalOf s ≡ accepted n → ⊥
+  refusal-never s e = go (eqb (s .number) 1) (eqb (s .number) 10) e
+    where
+      go : (b c : Bool) {n : ℕ} → cond b (refused 1 0) (cond c (refused 10 0) (refused 3 (s .table))) ≡ accepted n → ⊥
+      go true c e = never-refused (sym e)
+      go false true e = never-refused (sym e)
+      go false false e = never-refused (sym e)
+
+  -- the entries after the second are the machine's
+  entries-swept : (s : State) (es : List Entry) → outcomeOf s ≡ totalOf (rowOf L img (hashes es))
+      → cond (eqb (s .number) 0) (map (told L img) es) es ≡ entriesOf (rowOf L img (hashes es)) es
+  entries-swept s es e = go (eqb (s .number) 0) (rowOf L img (hashes es)) refl e
+    where
+      go : (b : Bool) (r : Result Row) → rowOf L img (hashes es) ≡ r → cond b (accepted (s .total)) (refusalOf s) ≡ totalOf r
+          → cond b (map (told L img) es) es ≡ entriesOf r es
+      go true (accepted w) h e = told-all es (row-answered L img (hashes es) h .asks)
+      go true (refused n i) h e = absurd (never-refused e)
+      go false (accepted w) h e = absurd (refusal-never s e)
+      go false (refused n i) h e = refl
+
+  -- each entry is ready in its turn, in both
+  pub first-ready : Fits64 L → (es : List Entry) → AllReady L img (begun (sizeOf (length img))) es
+  first-ready fits es = go (sizeOf (length img)) refl
+    where
+      go : (o : Option ℕ) → sizeOf (length img) ≡ o → AllReady L img (begun o) es
+      go none e = passed-ready es (begun none) refl
+      go (some B) e = tested-ready fits es (begun (some B)) (λ bytes. known-begun L img e) refl
+
+  pub second-ready : (es : List Entry)
+      → AllReady L img (resumed (testedState L img es)) (testedRow L img es)
+  second-ready es = rw (first .1) (go (eqb (s .number) 0) (rowOf L img (hashes es)) refl refl (first .0))
+    where
+      s : State
+      s = stateAfter L img (begun (sizeOf (length img))) es
+
+      first : (outcomeOf s ≡ totalOf (rowOf L img (hashes es))) × (rowAfter L img (begun (sizeOf (length img))) es ≡ es)
+      first = first-swept es (sizeOf (length img)) refl
+
+      go : (b : Bool) (r : Result Row) → eqb (s .number) 0 ≡ b → rowOf L img (hashes es) ≡ r → cond b (accepted (s .total)) (refusalOf s) ≡ totalOf r
+          → AllReady L img (resumed s) es
+      go true (accepted w) z h e =
+          let a = row-answered L img (hashes es) h in
+          told-ready es (a .asks) (resumed s) (rw z) (rw (first-size es (a .sized)) (whole-of img (a .sized)))
+      go true (refused n i) z h e = absurd (never-refused e)
+      go false r z h e = passed-ready es (resumed s) (rw z)
+
+  -- what both leave is the machine's row
+  pub both-swept : (es : List Entry) → Below (2 ^ 64) (hashes es) → {r : RowResult} {new : List Entry} → rowedOf r ≡ outcomeOf (toldState L img es)
+      → new ≡ toldRow L img es → Rows L img es r new
+  both-swept es small p q =
+      let s = testedState L img es in
+      let first = first-swept es (sizeOf (length img)) refl in
+      let second = second-swept (eqb (s .number) 0) es (resumed s) refl in
+      record {
+        held = small;
+        answer = (rw (first .1) at p) ∙ ap outcomeOf (second .0) ∙ first .0;
+        entries = (rw (first .1) at q) ∙ second .1 ∙ entries-swept s es (first .0);
+      }

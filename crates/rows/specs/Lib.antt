@@ -1,0 +1,2 @@
+-- What a sweep along a row asks and says.
+pub mod Steps

@@ -1,0 +1,2 @@
+-- The inner steps of a row of asks.
+pub mod Sweeps
