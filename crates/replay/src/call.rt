@@ -1,6 +1,7 @@
-// A stored line that keeps the lengths of the images: a call on one image or three, or bytes poked.
+// A stored line that keeps the lengths of the images: a call on one image or three, a row of asks, or bytes poked.
 
 use crate::Outcome;
+use crate::row::row;
 use capi::bcf_ask;
 use capi::bcf_check;
 use capi::bcf_count;
@@ -22,6 +23,9 @@ pub fn within(operation: u64, image: &mut [u8], p: u64, q: usize, out: &mut [u64
     }
     if operation == 5 {
         return page(image, p, out, q);
+    }
+    if operation == 11 {
+        return row(image, p, q);
     }
     call(operation, image, p)
 }

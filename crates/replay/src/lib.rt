@@ -1,6 +1,7 @@
-// The calls of stored lines, made on slices, each with the checksum of the bytes that it was lent.
+// The calls of stored lines, made on slices, and a row of asks, made on entries; each with the checksum of what it was lent.
 
 pub mod call;
+pub mod row;
 
 use stored::images::Lengths;
 

@@ -11,7 +11,12 @@ fn histories() {
 
 #[test]
 fn stored_calls() {
-    let input = cases::input();
+    // A row changes nothing, and `fast` has none.
+    let is_row = |text: &str| matches!(Line::parse(text), Some(Line::Row { .. }));
+    let input: String = cases::input()
+        .split_inclusive('\n')
+        .filter(|text| !is_row(text.trim_end()))
+        .collect();
     let mut images = Images::default();
     let line = |text| images.answer(&Fast, Line::parse(text).unwrap());
     let output: String = input.lines().map(line).collect();

@@ -1,12 +1,13 @@
 //! The branches of the machine that a call takes, by name.
 //!
-//! The stored calls must take every one of `ALL`, the random rows every one of `ROWS`.
+//! The stored calls must take every one of `ALL`, the random rows every one of `ROWS`, the stored
+//! rows every one but those of `BEYOND_THREE`.
 
 use crate::bucket::{Bytes, Member};
 use crate::calls::{self, bag, members, read_backyard, read_front, Asked, Bag, Place};
 use crate::fingerprint::Fingerprint;
 use crate::shape::{Shape, BUCKET};
-use crate::stored::{Images, Line};
+use crate::stored::{row_hashes, Images, Line};
 use std::collections::HashSet;
 
 pub const ALL: &[&str] = &[
@@ -192,6 +193,14 @@ pub const ROWS: &[&str] = &[
     "row: second, b0 = b1",
     "row: none, b0 = b1",
     "row: groups with one backyard bucket",
+];
+
+/// What a row of three asks never does.
+pub const BEYOND_THREE: &[&str] = &[
+    "row: 1, empty",
+    "row: accepted, empty",
+    "row: accepted, hundreds",
+    "row: none, front, first and second in one row",
 ];
 
 /// The names of one call, gathered.
@@ -897,6 +906,7 @@ pub fn of(images: &Images, line: Line, accepted: bool) -> Vec<String> {
             let sources = [image(x), image(y)];
             merge(&mut names, sources, image(z), x == y, accepted)
         }
+        Line::Row { x, hash, step } => row(&mut names, image(x), &row_hashes(hash, step)),
         Line::New { .. } | Line::Poke { .. } | Line::Copy { .. } => {}
     }
     names.names

@@ -1,5 +1,5 @@
 //! The calls that are stored for the program `trial`: document 01's cases one by one, then
-//! short random histories. Always the same lines.
+//! short random histories, then rows of three asks. Always the same lines.
 
 use crate::bucket::{encode_backyard, encode_front, Member};
 use crate::fingerprint::Fingerprint;
@@ -7,7 +7,7 @@ use crate::histories::{self, KINDS};
 use crate::prepare::{hash_of, Player};
 use crate::random::Random;
 use crate::shape::Shape;
-use crate::stored::{Images, Line};
+use crate::stored::{Images, Line, Step};
 
 /// No image that is stored is longer; B is at most 21.
 pub const LONGEST_IMAGE: usize = 12800;
@@ -564,6 +564,100 @@ fn program(p: &mut Player) {
     p.page(0, 0, 72);
 }
 
+/// Three asks in a row. The first is for `mini` and in the half of a front bucket that `half`
+/// numbers (front bucket f has 2f and 2f + 1); the next two each so many further on.
+fn ask_row(p: &mut Player, half: u64, mini: u64, tag: u64, halves: i64, minis: i64) {
+    let parts = 2 * p.shape(0).fronts();
+    // A hash has 16 bits for the half and 16 for the mini-bucket: the middle of each.
+    let middle = |n: u64, parts: u64| (2 * n + 1) * 65536 / (2 * parts);
+    let further = |n: i64, parts: u64| (n * 65536 / parts as i64) as u16;
+    let hash = (middle(half, parts) << 48) + (middle(mini, 36) << 16) + tag;
+    let step = Step {
+        mini: further(minis, 36),
+        front: further(halves, parts),
+    };
+    p.play(Line::Row { x: 0, hash, step });
+}
+
+/// Rows of three asks, all with tag 400. Front buckets 9, 13 and 14 are full with mini-buckets 0
+/// to 27; behind them mini-bucket 28 is in First, 29 in Second, and of 13 also 30 and 31. Front
+/// bucket 12 has room.
+fn rows(p: &mut Player) {
+    let tag = 400;
+    let members = |minis: std::ops::Range<u64>| minis.map(|mini| member(mini, tag, 0)).collect();
+    p.fresh(1, 3);
+    p.put_front(1, 12, members(0..5));
+    for f in [9, 13, 14] {
+        p.put_front(1, f, members(0..28));
+    }
+    // b0 of all four and b1 of 9 is 1; b1 of 13 is 5, b1 of 14 is 6.
+    let first = [(28, 1), (29, 9), (28, 5), (30, 5), (28, 6)];
+    let first = first.map(|(mini, crumb)| member(mini, tag, crumb));
+    p.put_backyard(1, 1, first.to_vec());
+    p.put_backyard(1, 5, vec![member(29, tag, 9), member(31, tag, 9)]);
+    p.put_backyard(1, 6, vec![member(29, tag, 9)]);
+    p.check(1);
+    p.play(Line::Copy { x: 1, y: 0 });
+    // One group: front bucket 13, by mini-bucket and how far apart.
+    for (mini, minis) in [
+        (0, 1),   // front, front, front
+        (27, 0),  // the largest of 28 three times
+        (26, 1),  // front, front, first
+        (27, 1),  // front, first, second
+        (29, -1), // second, first, front
+        (28, 1),  // first, second, first
+        (28, 0),  // first, three times
+        (29, 2),  // second, second, none
+        (33, 1),  // none, three times
+        (0, 17),  // front, front, none
+        (35, -8), // none, front, front
+    ] {
+        ask_row(p, 26, mini, tag, 0, minis);
+    }
+    ask_row(p, 26, 3, 401, 0, 7);
+    ask_row(p, 26, 27, 399, 0, 0);
+    // b0 = b1.
+    ask_row(p, 18, 27, tag, 0, 1);
+    ask_row(p, 18, 30, tag, 0, -2);
+    // Groups of two and one, one and two, one each.
+    for (half, halves) in [(26, 1), (27, 1), (24, 2), (22, 2), (18, 8), (0, 1), (1, 23)] {
+        for (mini, minis) in [(27, 1), (30, -1), (28, 0), (4, 0)] {
+            ask_row(p, half, mini, tag, halves, minis);
+        }
+    }
+    // Front buckets that descend, two rows past the last hash; then one back past hash 0, which
+    // ascends.
+    for (half, halves) in [(28, -2), (27, -1), (26, -1), (46, 2), (46, 1), (0, -1)] {
+        ask_row(p, half, 28, tag, halves, 0);
+    }
+    refused_rows(p);
+}
+
+/// Rows on the same image with an unsound bucket, and on wrong lengths.
+fn refused_rows(p: &mut Player) {
+    for table in [24 + 5, 24 + 1, 14, 13] {
+        p.play(Line::Copy { x: 1, y: 0 });
+        p.put_byte(0, table, 0, 0);
+        for (half, halves, mini, minis) in [
+            (26, 0, 27, 1),  // front, first, second of 13
+            (26, 0, 25, 1),  // front three times
+            (24, 2, 28, 0),  // 12, 13, 14
+            (27, 1, 28, 0),  // 13, 14, 14
+            (27, -1, 29, 0), // 13, 13, 12
+            (30, -2, 29, 0), // 15, 14, 13
+        ] {
+            ask_row(p, half, mini, 400, halves, minis);
+        }
+    }
+    for length in [0, 1023, 2175] {
+        p.play(Line::New { x: 0, length });
+        for (hash, front) in [(0, 0), (u64::MAX, 1)] {
+            let step = Step { mini: 1, front };
+            p.play(Line::Row { x: 0, hash, step });
+        }
+    }
+}
+
 /// The stored input.
 pub fn input() -> String {
     let mut text = String::new();
@@ -586,6 +680,7 @@ pub fn input() -> String {
             histories::play(p, kind, b, calls);
         }
     }
+    rows(p);
     text
 }
 
@@ -661,11 +756,17 @@ mod tests {
                 .all(|image| image.len() <= LONGEST_IMAGE));
             assert!(images.out.len() <= LONGEST_OUTPUT);
         }
-        let all: BTreeSet<String> = branches::ALL.iter().map(|name| name.to_string()).collect();
+        let rows = branches::ROWS.iter();
+        let rows = rows.filter(|name| !branches::BEYOND_THREE.contains(name));
+        let all: BTreeSet<String> = branches::ALL
+            .iter()
+            .chain(rows)
+            .map(|name| name.to_string())
+            .collect();
         let missing: Vec<&String> = all.difference(&met).collect();
         let unknown: Vec<&String> = met.difference(&all).collect();
         assert!(missing.is_empty(), "missing: {missing:#?}");
-        assert!(unknown.is_empty(), "not named in ALL: {unknown:#?}");
-        assert_eq!(numbers, (0..=8).collect());
+        assert!(unknown.is_empty(), "not named: {unknown:#?}");
+        assert_eq!(numbers, (0..=8).chain([10]).collect());
     }
 }

@@ -2,7 +2,7 @@
 //!
 //! The format is written down in reference/README.md.
 
-use crate::catalogue::{Catalogue, Model};
+use crate::catalogue::{Catalogue, Entry, Model};
 
 /// Bytes of a line, without its newline.
 pub const WIDTH: usize = 29;
@@ -60,6 +60,27 @@ pub enum Line {
         x: usize,
         y: usize,
     },
+    /// Three asks in a row, the next two each so much further on; before the call their entries
+    /// hold 7 besides the hash.
+    Row {
+        x: usize,
+        hash: u64,
+        step: Step,
+    },
+}
+
+/// How far the hashes of a row lie apart: what is added to their two digits of 16 bits that tell
+/// the mini-bucket and the front bucket, the carry included.
+#[derive(Clone, Copy, PartialEq, Eq, Debug)]
+pub struct Step {
+    pub mini: u16,
+    pub front: u16,
+}
+
+/// The three hashes of a row.
+pub fn row_hashes(hash: u64, step: Step) -> [u64; 3] {
+    let step = ((step.front as u64) << 48) + ((step.mini as u64) << 16);
+    [0, 1, 2].map(|n: u64| hash.wrapping_add(step.wrapping_mul(n)))
 }
 
 impl Line {
@@ -77,6 +98,10 @@ impl Line {
             Line::Merge { x, y, z } => (0x08, x, y, z, 0, 0),
             Line::Poke { x, at, word } => (0x09, x, 0, 0, word, at),
             Line::Copy { x, y } => (0x0A, x, y, 0, 0, 0),
+            Line::Row { x, hash, step } => {
+                let q = ((step.front as usize) << 16) + step.mini as usize;
+                (0x0B, x, 0, 0, hash, q)
+            }
         }
     }
 
@@ -110,6 +135,11 @@ impl Line {
             0x08 => Line::Merge { x, y, z },
             0x09 => Line::Poke { x, at: q, word: p },
             0x0A => Line::Copy { x, y },
+            0x0B => {
+                let (mini, front) = (q as u16, (q >> 16) as u16);
+                let step = Step { mini, front };
+                Line::Row { x, hash: p, step }
+            }
             _ => return None,
         };
         (line.text().trim_end() == text).then_some(line)
@@ -124,7 +154,7 @@ impl Line {
         }
     }
 
-    /// Whether the line is one of the eight calls.
+    /// Whether the line is one of the eight calls or a row.
     pub fn is_call(self) -> bool {
         !matches!(
             self,
@@ -133,7 +163,7 @@ impl Line {
     }
 }
 
-/// Three images, and the output of the last page.
+/// Three images, and the output of the last page or the fields of the last row's entries.
 #[derive(Clone, Default, PartialEq, Eq)]
 pub struct Images {
     pub image: [Vec<u8>; 3],
@@ -167,12 +197,18 @@ impl Images {
                 self.image[z] = target;
                 return answer;
             }
+            Line::Row { x, hash, step } => {
+                let mut row = row_hashes(hash, step).map(entry);
+                let answer = catalogue.row(&self.image[x], &mut row);
+                self.out = row.iter().flat_map(numbers).collect();
+                return answer.expect("an implementation that has rows");
+            }
         }
         0
     }
 
-    /// FNV-1a over the bytes that the call was lent: the image and, for a page, the output;
-    /// for a merge the three images in their order.
+    /// FNV-1a over the bytes that the call was lent: the image and, for a page, the output, for
+    /// a row the fields of its entries; for a merge the three images in their order.
     fn checksum(&self, line: Line) -> u64 {
         let mut sum = FNV_START;
         for x in line.images() {
@@ -193,6 +229,24 @@ impl Images {
         let (operation, ..) = line.fields();
         format!("{operation:02X}{answer:016X}{:016X}\n", self.checksum(line))
     }
+}
+
+/// An entry of a row before the call: all but the hash is 7, so that what is kept shows.
+fn entry(hash: u64) -> Entry {
+    Entry {
+        hash,
+        reads: 7,
+        place: 7,
+        slot: 7,
+        copies: 7,
+    }
+}
+
+/// The fields of an entry in their order.
+fn numbers(entry: &Entry) -> [u64; 5] {
+    let [reads, place, slot, copies] =
+        [entry.reads, entry.place, entry.slot, entry.copies].map(u64::from);
+    [entry.hash, reads, place, slot, copies]
 }
 
 pub const FNV_START: u64 = 0xCBF29CE484222325;
@@ -239,11 +293,58 @@ mod tests {
                 word: u64::MAX,
             },
             Line::Copy { x: 0, y: 2 },
+            Line::Row {
+                x: 1,
+                hash: u64::MAX,
+                step: Step {
+                    mini: 0xFFFE,
+                    front: 0xFFFD,
+                },
+            },
         ] {
             let text = line.text();
             assert_eq!(text.len(), WIDTH + 1);
             assert_eq!(Line::parse(text.trim_end()), Some(line));
         }
         assert_eq!(Line::parse("01"), None);
+    }
+
+    #[test]
+    fn hashes_of_a_row() {
+        let hashes = |hash, mini, front| row_hashes(hash, Step { mini, front });
+        assert_eq!(hashes(5, 0, 0), [5, 5, 5]);
+        assert_eq!(hashes(5, 1, 0), [5, 0x10005, 0x20005]);
+        assert_eq!(
+            hashes(5, 0x8000, 2),
+            [5, 0x0002000080000005, 0x0004000100000005]
+        );
+        assert_eq!(
+            hashes(u64::MAX, 1, 0xFFFF),
+            [u64::MAX, 0xFFFF00000000FFFF, 0xFFFE00000001FFFF]
+        );
+    }
+
+    #[test]
+    fn a_row_and_what_it_keeps() {
+        let mut images = Images::default();
+        let mut row = |line| (images.perform(&Model, line), images.out.clone());
+        let step = Step { mini: 0, front: 1 };
+        let ask = Line::Row {
+            x: 0,
+            hash: 5,
+            step,
+        };
+        row(Line::New { x: 0, length: 1024 });
+        row(Line::Fresh { x: 0 });
+        let hashes = row_hashes(5, step);
+        let fields = |told: [u64; 4]| -> Vec<u64> {
+            hashes
+                .iter()
+                .flat_map(|&h| [&[h], &told[..]].concat())
+                .collect()
+        };
+        assert_eq!(row(ask), (1, fields([1, 0, 0, 7])));
+        row(Line::New { x: 0, length: 1025 });
+        assert_eq!(row(ask), (1 << 56, fields([7, 7, 7, 7])));
     }
 }

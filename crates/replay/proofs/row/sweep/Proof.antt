@@ -1,0 +1,30 @@
+-- `sweep` meets its contract: each entry is ready in its turn, as the row is.
+use native.Mathlib.Omega.{arith}
+use Rattle.replay.specs.Rows.{listed}
+use Rattle.replay.proofs.row.sweep.Statement.{statement}
+use Rattle.replay.proofs.row.sweep.Tie as tie
+
+turn-requires : tie.Need-turn-requires
+unfolding listed
+turn-requires c κs = c .before .pre .0
+
+turn-requires-2 : tie.Need-turn-requires-2
+unfolding listed
+turn-requires-2 c κs = rw (c .turn .ensures) (c .before .before .pre .1 (omega arith) .0)
+
+turn-requires-3 : tie.Need-turn-requires-3
+unfolding listed
+turn-requires-3 c κs =
+    let s = c .before .before .before in
+    rw (c .turn2 .ensures, c .before .turn .ensures) (s .pre .1 (omega (arith, s .good)) .1 (omega (arith, s .good)) .0)
+
+returns : tie.Need-returns
+unfolding listed
+returns c =
+    let b = c .before .before .before .before in (
+      rw (b .turn3 .ensures, b .before .turn2 .ensures, b .before .before .turn .ensures),
+      rw (b .turn3 .ensures, b .before .turn2 .ensures, b .before .before .turn .ensures),
+    )
+
+pub sweep-spec : {M : Type 1} → statement M
+sweep-spec = tie.close (tie.spec turn-requires turn-requires-2 turn-requires-3 returns)
