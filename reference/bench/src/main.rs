@@ -163,7 +163,7 @@ const ROWS_NOTES: &str = "\
 ns an ask. A row has 96 asks, sorted by hash: 12 random front buckets with 8 hashes each, all of \
 members or all of others. `lone` asks for them one by one in that order, `row` in one call of \
 `bcf_row`; there filling the entries and looking at their places is in the time. In a round both \
-ask for the same hashes, each on its own image, warmed as above, and take turns at starting.
+ask for the same hashes, each on its own image, warmed by as many asks of its kind, and take turns at starting.
 ";
 
 /// The panels of one axis: one for each of the calls that are plotted. A point is its place on
