@@ -52,7 +52,8 @@ pub fn row(image: &[u8], row: &mut [Entry]) -> RowResult
     ensures { λ r. ⌜ Rows layout1 (now (image .entry)) (now (row .entry)) r (now (row .exit)) ⌝ }
 {
     let start = begin(image.len());
-    let tested = sweep(image, row, start);
+    let fetched = sweep(image, row, start);
+    let tested = sweep(image, row, resume(fetched));
     let told = sweep(image, row, resume(tested));
     outcome(told)
 }

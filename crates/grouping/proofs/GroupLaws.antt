@@ -1,10 +1,10 @@
 -- What is known of a state while a row is tested, for any layout. Main results: an accepted ask has read its buckets (`asked-read`), keys below
--- the bound need no more of them (`bound-asked`), and what is known stays known (`known-begun`, `known-tested`).
+-- the bound need no more of them (`bound-asked`), and what is known stays known (`known-opened`, `known-tested`).
 use mathlib.Core.Path.{_≡_, refl, sym, ap}
 use Prim.Native.Nat.{ℕ, _+_, _*_, _^_, _≤_, _<_, max}
 use mathlib.Core.Bool.{Bool, true, false, cond, _&&_}
 use mathlib.Core.List.{List}
-use mathlib.Core.Option.{none, some}
+use mathlib.Core.Option.{some}
 use native.Mathlib.Omega.{arith}
 use lib.ListN.{length}
 use lib.Dec.{eqb, ltb, leb}
@@ -25,7 +25,7 @@ use Rattle.machine.proofs.RowLaws.{of-search, of-test, ask-ends, asked-some, as
 use Rattle.image.specs.Steps.ImageReads.{FrontIn, BackIn, FrontRead, BackRead, FrontSays, BackSays}
 use Rattle.image.proofs.ImageReadLaws.{whole-of, front-in, back-in}
 use Rattle.image.proofs.PartLaws.{front-says, back-says}
-use Rattle.grouping.specs.Steps.Grouping.{Bytes, held, reachAt, boundAt, GroupRead, sharing, descended, passed, advanced, testedAt, tested, Live, Known, Extends, begun}
+use Rattle.grouping.specs.Steps.Grouping.{Bytes, held, reachAt, boundAt, GroupRead, sharing, descended, passed, advanced, testedAt, tested, Live, Known, Extends, opened}
 use Rattle.grouping.specs.declared.State.{State}
 
 -- ---- a bucket that was accepted is sound
@@ -188,9 +188,9 @@ tested-same L img s known x h = of-tested L img s (s .front) x (λ t. s ≡ t)
         let one : held s (s .front) ≡ s .reads = rw (le-ltb (s .front) (s .front) (omega arith)) in
         rw (one, p .1, m) (alike s (sym z) refl (sym (live .bound)) (sym (live .table)) (omega arith))
 
-pub known-begun : (L : Layout) {B : ℕ} (img : List ℕ) → sizeOf (length img) ≡ some B → Known L img (begun (some B))
+pub known-opened : (L : Layout) {B : ℕ} (img : List ℕ) → sizeOf (length img) ≡ some B → Known L img (opened (some B))
 unfolding fronts boundAt
-known-begun L img e =
+known-opened L img e =
     let w = whole-of img e in
     record { whole = w; front = omega arith; live = λ z. record { few = omega arith; table = refl; most = omega arith; group = none-read; bound = refl } }
 

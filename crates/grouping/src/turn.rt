@@ -1,7 +1,8 @@
-// An entry in its turn, and the state before, between and after the two times that a row is gone through.
+// An entry in its turn, and the state before, between and after the three times that a row is gone through.
 
 use crate::State;
 use crate::Turned;
+use crate::fetch::fetch;
 use crate::share::test;
 use crate::tell::tell;
 use answers::Entry;
@@ -21,7 +22,7 @@ pub fn begin(len: usize) -> State
 {
     let Size::Buckets(size) = size_of(len) else {
         return State {
-            phase: 2,
+            phase: 3,
             number: 1,
             reads: 0,
             bound: 0,
@@ -43,19 +44,26 @@ pub fn begin(len: usize) -> State
     }
 }
 
-// One entry, with the state before it.
-pub fn turn(image: &[u8], s: State, e: Entry) -> Turned
-    requires { ⌜ Ready layout1 (now image) s (e .hash) ⌝ }
-    ensures { λ r. ⌜ r ≡ turned layout1 (now (image .entry)) s e ⌝ }
+// One entry, with the state before it. The phase is the sweep's and comes apart from the state, so that it is seen to stay along a row.
+pub fn turn(image: &[u8], phase: u32, s: State, e: Entry) -> Turned
+    requires { ⌜ Ready layout1 (now image) phase s (e .hash) ⌝ }
+    ensures { λ r. ⌜ r ≡ turned layout1 (now (image .entry)) phase s e ⌝ }
 {
-    if s.phase == 0 {
+    if phase == 0 {
+        let next = fetch(image, s, e.hash);
+        return Turned {
+            state: next,
+            entry: e,
+        };
+    }
+    if phase == 1 {
         let next = test(image, s, e.hash);
         return Turned {
             state: next,
             entry: e,
         };
     }
-    if s.phase == 1 {
+    if phase == 2 {
         let answer = tell(image, s.size, e);
         return Turned {
             state: s,
@@ -65,11 +73,23 @@ pub fn turn(image: &[u8], s: State, e: Entry) -> Turned
     Turned { state: s, entry: e }
 }
 
-// After the test: the entries receive their answers, or the row is refused.
+// After a sweep: what was fetched is tested, and what was tested receives its answers or is refused.
 pub fn resume(s: State) -> State
     ensures { λ r. ⌜ r ≡ resumed s ⌝ }
 {
-    let phase = if s.number == 0 { 1 } else { 2 };
+    if s.phase == 0 {
+        return State {
+            phase: 1,
+            number: 0,
+            reads: 0,
+            bound: 0,
+            size: s.size,
+            table: 0,
+            front: 0,
+            total: 0,
+        };
+    }
+    let phase = if s.number == 0 { 2 } else { 3 };
     State {
         phase,
         number: s.number,

@@ -30,10 +30,11 @@ struct Swept {
     row: Entries,
 }
 
-// The asks of p, p + d and p + 2d, where d comes from q: tested, then told.
+// The asks of p, p + d and p + 2d, where d comes from q: fetched, tested, then told.
 pub fn row(image: &[u8], p: u64, q: usize) -> Outcome {
     let entries = entries_of(p, step_of(q as u64));
-    let tested = sweep(image, entries, begin(image.len()));
+    let fetched = sweep(image, entries, begin(image.len()));
+    let tested = sweep(image, fetched.row, resume(fetched.state));
     let told = sweep(image, tested.row, resume(tested.state));
     let answer = packed(outcome(told.state));
     Outcome::Said(11, answer, sum_of(image, told.row))
@@ -72,9 +73,10 @@ fn sweep(image: &[u8], row: Entries, start: State) -> Swept
     ensures { λ r. ⌜ r .state ≡ stateAfter layout1 (now (image .entry)) start (listed row) ⌝ }
     ensures { λ r. ⌜ listed (r .row) ≡ rowAfter layout1 (now (image .entry)) start (listed row) ⌝ }
 {
-    let a = turn(image, start, row.first);
-    let b = turn(image, a.state, row.second);
-    let c = turn(image, b.state, row.third);
+    let phase = start.phase;
+    let a = turn(image, phase, start, row.first);
+    let b = turn(image, phase, a.state, row.second);
+    let c = turn(image, phase, b.state, row.third);
     let state = c.state;
     let first = a.entry;
     let second = b.entry;

@@ -1,6 +1,6 @@
--- A row swept twice is the row of the machine, for any layout. Main results: each entry is ready in its turn (`first-ready`, `second-ready`), and what
--- two sweeps leave (`both-swept`).
-use mathlib.Core.Path.{_≡_, refl, sym, _∙_, ap}
+-- A row swept three times is the row of the machine, for any layout. Main results: each entry is ready in its turn (`first-ready`, `second-ready`,
+-- `third-ready`), and what three sweeps leave (`all-swept`).
+use mathlib.Core.Path.{_≡_, refl, sym, _∙_, ap, subst}
 use Prim.Native.Nat.{ℕ, _+_, _-_, _^_, max}
 use mathlib.Core.Bool.{Bool, true, false, cond}
 use mathlib.Core.List.{List, [], _∷_, map}
@@ -24,10 +24,10 @@ use Rattle.answers.specs.declared.Entry.{Entry}
 use Rattle.answers.specs.declared.RowResult.{RowResult}
 use Rattle.image.specs.Steps.ImageReads.{Whole}
 use Rattle.image.proofs.ImageReadLaws.{whole-of}
-use Rattle.grouping.specs.Steps.Grouping.{Bytes, held, sharing, descended, passed, advanced, tested, Known, told, turned, begun, resumed, outcomeOf}
+use Rattle.grouping.specs.Steps.Grouping.{Bytes, held, fetched, sharing, descended, passed, advanced, tested, Known, told, turned, begun, opened, settled, resumed, outcomeOf}
 use Rattle.grouping.specs.declared.State.{State}
-use Rattle.grouping.proofs.GroupLaws.{of-tested, known-begun, known-tested}
-use Rattle.rows.specs.Steps.Sweeps.{stateAfter, rowAfter, AllReady, testedState, testedRow, toldState, toldRow}
+use Rattle.grouping.proofs.GroupLaws.{of-tested, known-opened, known-tested}
+use Rattle.rows.specs.Steps.Sweeps.{stateFrom, rowFrom, ReadyFrom, stateAfter, rowAfter, AllReady, fetchedState, fetchedRow, testedState, testedRow, toldState, toldRow}
 
 -- ---- sums
 
@@ -56,12 +56,20 @@ either false x = refl
 -- ---- a sweep in each phase
 
 module _ (L : Layout) (img : List ℕ) where
-  -- the state after hashes that are tested
+  -- the state after hashes that are fetched, and after hashes that are tested
+  abbrev fetches : State → List ℕ → State
+  fetches s [] = s
+  fetches s (k ∷ ks) = fetches (fetched img s k) ks
+
   abbrev runs : State → List ℕ → State
   runs s [] = s
   runs s (k ∷ ks) = runs (tested L img s k) ks
 
-  -- a test changes neither phase nor size
+  -- neither changes phase or size
+  fetches-keeps : (ks : List ℕ) (s : State) → (fetches s ks .phase ≡ s .phase) × (fetches s ks .size ≡ s .size)
+  fetches-keeps [] s = (refl, refl)
+  fetches-keeps (k ∷ ks) s = fetches-keeps ks (fetched img s k)
+
   advanced-keeps : (s : State) (f : ℕ) (r : Result ℕ) → (advanced L img s f r .phase ≡ s .phase) × (advanced L img s f r .size ≡ s .size)
   advanced-keeps s f (accepted n) = (refl, refl)
   advanced-keeps s f (refused n i) = (refl, refl)
@@ -72,54 +80,76 @@ module _ (L : Layout) (img : List ℕ) where
       of-tested L img s f (keyOf L k) (λ t. (t .phase ≡ s .phase) × (t .size ≡ s .size))
       (λ d. (refl, refl)) (λ d e. advanced-keeps s f (sharing L (s .size) f (keyOf L k) img (held s f))) (λ d e. (refl, refl))
 
-  runs-size : (ks : List ℕ) (s : State) → runs s ks .size ≡ s .size
-  runs-size [] s = refl
-  runs-size (k ∷ ks) s = runs-size ks (tested L img s k) ∙ tested-keeps s k .1
+  runs-keeps : (ks : List ℕ) (s : State) → (runs s ks .phase ≡ s .phase) × (runs s ks .size ≡ s .size)
+  runs-keeps [] s = (refl, refl)
+  runs-keeps (k ∷ ks) s =
+      let r = runs-keeps ks (tested L img s k) in
+      let t = tested-keeps s k in
+      (r .0 ∙ t .0, r .1 ∙ t .1)
 
   -- a turn
-  testing : (s : State) (e : Entry) → s .phase ≡ 0 → turned L img s e ≡ record { state = tested L img s (e .hash); entry = e }
+  fetching : (s : State) (e : Entry) → turned L img 0 s e ≡ record { state = fetched img s (e .hash); entry = e }
   unfolding turned
-  testing s e h = rw h
+  fetching s e = refl
 
-  telling : (s : State) (e : Entry) → s .phase ≡ 1 → turned L img s e ≡ record { state = s; entry = told L img e }
+  testing : (s : State) (e : Entry) → turned L img 1 s e ≡ record { state = tested L img s (e .hash); entry = e }
   unfolding turned
-  telling s e h = rw h
+  testing s e = refl
 
-  passing : (s : State) (e : Entry) → s .phase ≡ 2 → turned L img s e ≡ record { state = s; entry = e }
+  telling : (s : State) (e : Entry) → turned L img 2 s e ≡ record { state = s; entry = told L img e }
   unfolding turned
-  passing s e h = rw h
+  telling s e = refl
+
+  passing : (s : State) (e : Entry) → turned L img 3 s e ≡ record { state = s; entry = e }
+  unfolding turned
+  passing s e = refl
 
   -- a sweep
-  all-tested : (es : List Entry) (s : State) → s .phase ≡ 0 → (stateAfter L img s es ≡ runs s (hashes es)) × (rowAfter L img s es ≡ es)
-  all-tested [] s h = (refl, refl)
-  all-tested (e ∷ es) s h =
-      let r = all-tested es (tested L img s (e .hash)) (tested-keeps s (e .hash) .0 ∙ h) in
-      rw (testing s e h) (r .0, ap (λ (l : List Entry). e ∷ l) (r .1))
+  all-fetched : (es : List Entry) (s : State) → (stateFrom L img 0 s es ≡ fetches s (hashes es)) × (rowFrom L img 0 s es ≡ es)
+  all-fetched [] s = (refl, refl)
+  all-fetched (e ∷ es) s =
+      let r = all-fetched es (fetched img s (e .hash)) in
+      rw (fetching s e) (r .0, ap (λ (l : List Entry). e ∷ l) (r .1))
 
-  all-told : (es : List Entry) (s : State) → s .phase ≡ 1 → (stateAfter L img s es ≡ s) × (rowAfter L img s es ≡ map (told L img) es)
-  all-told [] s h = (refl, refl)
-  all-told (e ∷ es) s h = let r = all-told es s h in rw (telling s e h) (r .0, ap (λ (l : List Entry). told L img e ∷ l) (r .1))
+  all-tested : (es : List Entry) (s : State) → (stateFrom L img 1 s es ≡ runs s (hashes es)) × (rowFrom L img 1 s es ≡ es)
+  all-tested [] s = (refl, refl)
+  all-tested (e ∷ es) s =
+      let r = all-tested es (tested L img s (e .hash)) in
+      rw (testing s e) (r .0, ap (λ (l : List Entry). e ∷ l) (r .1))
 
-  all-passed : (es : List Entry) (s : State) → s .phase ≡ 2 → (stateAfter L img s es ≡ s) × (rowAfter L img s es ≡ es)
-  all-passed [] s h = (refl, refl)
-  all-passed (e ∷ es) s h = let r = all-passed es s h in rw (passing s e h) (r .0, ap (λ (l : List Entry). e ∷ l) (r .1))
+  all-told : (es : List Entry) (s : State) → (stateFrom L img 2 s es ≡ s) × (rowFrom L img 2 s es ≡ map (told L img) es)
+  all-told [] s = (refl, refl)
+  all-told (e ∷ es) s = let r = all-told es s in rw (telling s e) (r .0, ap (λ (l : List Entry). told L img e ∷ l) (r .1))
+
+  all-passed : (es : List Entry) (s : State) → (stateFrom L img 3 s es ≡ s) × (rowFrom L img 3 s es ≡ es)
+  all-passed [] s = (refl, refl)
+  all-passed (e ∷ es) s = let r = all-passed es s in rw (passing s e) (r .0, ap (λ (l : List Entry). e ∷ l) (r .1))
 
   -- ---- readiness
 
-  -- in a row that is refused, and in one that is tested
-  passed-ready : (es : List Entry) (s : State) → s .phase ≡ 2 → AllReady L img s es
-  passed-ready [] s h = tt
-  passed-ready (e ∷ es) s h = (record { testing = λ z. absurd (omega arith); telling = λ z. absurd (omega arith) }, λ small. rw (passing s e h) (passed-ready es s h))
-
-  tested-ready : Fits64 L → (es : List Entry) (s : State) → (Bytes img → Known L img s) → s .phase ≡ 0 → AllReady L img s es
-  tested-ready fits [] s known h = tt
-  tested-ready fits (e ∷ es) s known h = (
-    record { testing = λ z. known; telling = λ z. absurd (omega arith) },
-    λ small. rw (testing s e h)
-        (tested-ready fits es (tested L img s (e .hash)) (λ bytes. known-tested fits bytes (known bytes) (e .hash) small) (tested-keeps s (e .hash) .0 ∙ h)),
+  -- in a row that is refused, in one that is fetched, and in one that is tested
+  passed-ready : (es : List Entry) (s : State) → ReadyFrom L img 3 s es
+  passed-ready [] s = tt
+  passed-ready (e ∷ es) s = (
+    record { fetching = λ z. absurd (omega arith); testing = λ z. absurd (omega arith); telling = λ z. absurd (omega arith) },
+    λ small. rw (passing s e) (passed-ready es s),
   )
 
-  -- ---- what the first sweep comes to
+  fetched-ready : (es : List Entry) (s : State) → Whole (s .size) img → ReadyFrom L img 0 s es
+  fetched-ready [] s w = tt
+  fetched-ready (e ∷ es) s w = (
+    record { fetching = λ z. w; testing = λ z. absurd (omega arith); telling = λ z. absurd (omega arith) },
+    λ small. rw (fetching s e) (fetched-ready es (fetched img s (e .hash)) w),
+  )
+
+  tested-ready : Fits64 L → (es : List Entry) (s : State) → (Bytes img → Known L img s) → ReadyFrom L img 1 s es
+  tested-ready fits [] s known = tt
+  tested-ready fits (e ∷ es) s known = (
+    record { fetching = λ z. absurd (omega arith); testing = λ z. known; telling = λ z. absurd (omega arith) },
+    λ small. rw (testing s e) (tested-ready fits es (tested L img s (e .hash)) (λ bytes. known-tested fits bytes (known bytes) (e .hash) small)),
+  )
+
+  -- ---- what the test comes to
 
   -- the refusal that a state tells of
   abbrev refusalOf : State → Result ℕ
@@ -180,45 +210,79 @@ module _ (L : Layout) (img : List ℕ) where
       let p = asks-split L img (e .hash) (hashes es) q in
       rw (p .4, p .2) (ap (λ (l : List Entry). receivedOf e (p .0) ∷ l) (told-all es (p .3)))
 
-  told-ready : (es : List Entry) {rs : List Asked} → asksOf L img (hashes es) ≡ accepted rs → (s : State) → s .phase ≡ 1 → Whole (s .size) img
-      → AllReady L img s es
-  told-ready [] q s h w = tt
-  told-ready (e ∷ es) q s h w =
+  told-ready : (es : List Entry) {rs : List Asked} → asksOf L img (hashes es) ≡ accepted rs → (s : State) → Whole (s .size) img → ReadyFrom L img 2 s es
+  told-ready [] q s w = tt
+  told-ready (e ∷ es) q s w =
       let p = asks-split L img (e .hash) (hashes es) q in (
-        record { testing = λ z. absurd (omega arith); telling = λ z. (w, rw (p .2)) },
-        λ small. rw (telling s e h) (told-ready es (p .3) s h w),
+        record { fetching = λ z. absurd (omega arith); testing = λ z. absurd (omega arith); telling = λ z. (w, rw (p .2)) },
+        λ small. rw (telling s e) (told-ready es (p .3) s w),
       )
 
-  -- ---- two sweeps
+  -- ---- three sweeps
 
-  -- the first leaves the row as it is, and comes to the machine's result
-  sized-outcome : {B : ℕ} → sizeOf (length img) ≡ some B → (ks : List ℕ) → outcomeOf (runs (begun (some B)) ks) ≡ totalOf (rowOf L img ks)
+  -- the first leaves the row as it is, and the test starts afresh
+  fetched-resumed : (s : State) → s .phase ≡ 0 → resumed s ≡ opened (some (s .size))
+  fetched-resumed s h = rw h
+
+  fetched-swept : (es : List Entry) (o : Option ℕ) → (resumed (stateAfter L img (begun o) es) ≡ opened o) × (rowAfter L img (begun o) es ≡ es)
+  fetched-swept es none = let p = all-passed es (begun none) in (ap resumed (p .0), p .1)
+  fetched-swept es (some B) =
+      let p = all-fetched es (begun (some B)) in
+      let k = fetches-keeps (hashes es) (begun (some B)) in
+      (ap resumed (p .0) ∙ fetched-resumed (fetches (begun (some B)) (hashes es)) (k .0) ∙ ap (λ (n : ℕ). opened (some n)) (k .1), p .1)
+
+  -- the second leaves the row as it is, and comes to the machine's result
+  abbrev run : List Entry → State
+  run es = stateAfter L img (opened (sizeOf (length img))) es
+
+  tested-is : (es : List Entry) → (testedState L img es ≡ run es) × (testedRow L img es ≡ rowAfter L img (opened (sizeOf (length img))) es)
+  tested-is es =
+      let f = fetched-swept es (sizeOf (length img)) in
+      ((λ i. stateAfter L img (f .0 i) (f .1 i)), (λ i. rowAfter L img (f .0 i) (f .1 i)))
+
+  sized-outcome : {B : ℕ} → sizeOf (length img) ≡ some B → (ks : List ℕ) → outcomeOf (runs (opened (some B)) ks) ≡ totalOf (rowOf L img ks)
   unfolding rowOf
-  sized-outcome {B} e ks = runs-outcome ks (begun (some B)) e ∙ rw e (go (descends 0 (map (frontOf B) ks)) (asksOf L img ks))
+  sized-outcome {B} e ks = runs-outcome ks (opened (some B)) e ∙ rw e (go (descends 0 (map (frontOf B) ks)) (asksOf L img ks))
     where
       fs : List ℕ
       fs = map (frontOf B) ks
 
-      go : (b : Bool) (q : Result (List Asked)) → cond b (refused 10 0) (andThen q λ rs. accepted (totalled (begun (some B)) fs rs))
+      go : (b : Bool) (q : Result (List Asked)) → cond b (refused 10 0) (andThen q λ rs. accepted (totalled (opened (some B)) fs rs))
           ≡ totalOf (cond b (refused 10 0) (andThen q λ rs. accepted (record { answers = rs; total = sum (groups fs rs) })))
       go true q = refl
       go false (accepted rs) = ap accepted (omega (arith, unopened (groups fs rs)))
       go false (refused n i) = refl
 
-  first-swept : (es : List Entry) (o : Option ℕ) → sizeOf (length img) ≡ o
-      → (outcomeOf (stateAfter L img (begun o) es) ≡ totalOf (rowOf L img (hashes es))) × (rowAfter L img (begun o) es ≡ es)
+  tested-swept : (es : List Entry) (o : Option ℕ) → sizeOf (length img) ≡ o
+      → (outcomeOf (stateAfter L img (opened o) es) ≡ totalOf (rowOf L img (hashes es))) × (rowAfter L img (opened o) es ≡ es)
   unfolding rowOf
-  first-swept es none e = let p = all-passed es (begun none) refl in (rw (p .0, e), p .1)
-  first-swept es (some B) e = let p = all-tested es (begun (some B)) refl in (ap outcomeOf (p .0) ∙ sized-outcome e (hashes es), p .1)
+  tested-swept es none e = let p = all-passed es (opened none) in (rw (p .0, e), p .1)
+  tested-swept es (some B) e = let p = all-tested es (opened (some B)) in (ap outcomeOf (p .0) ∙ sized-outcome e (hashes es), p .1)
 
-  first-size : (es : List Entry) {B : ℕ} → sizeOf (length img) ≡ some B → stateAfter L img (begun (sizeOf (length img))) es .size ≡ B
-  first-size es {B} e = rw (e, all-tested es (begun (some B)) refl .0) (runs-size (hashes es) (begun (some B)))
+  -- where it was tested, the entries are told next, or the row is refused
+  tested-resumed : (s : State) → s .phase ≡ 1 → resumed s ≡ settled s
+  tested-resumed s h = rw h
 
-  -- the second leaves the state as it is, and the row too where it is refused
-  second-swept : (b : Bool) (es : List Entry) (s : State) → s .phase ≡ cond b 1 2
+  run-resumed : (es : List Entry) (o : Option ℕ) → resumed (stateAfter L img (opened o) es) ≡ settled (stateAfter L img (opened o) es)
+  run-resumed es none = let p = all-passed es (opened none) .0 in ap resumed p ∙ sym (ap settled p)
+  run-resumed es (some B) =
+      let p = all-tested es (opened (some B)) .0 in
+      tested-resumed (stateAfter L img (opened (some B)) es) (ap (λ (s : State). s .phase) p ∙ runs-keeps (hashes es) (opened (some B)) .0)
+
+  run-size : (es : List Entry) {B : ℕ} → sizeOf (length img) ≡ some B → run es .size ≡ B
+  run-size es {B} e = rw (e, all-tested es (opened (some B)) .0) (runs-keeps (hashes es) (opened (some B)) .1)
+
+  -- so the third starts with what the second came to
+  third-starts : (es : List Entry) → (resumed (testedState L img es) ≡ settled (run es)) × (testedRow L img es ≡ es)
+  third-starts es =
+      let t = tested-is es in
+      (ap resumed (t .0) ∙ run-resumed es (sizeOf (length img)), t .1 ∙ tested-swept es (sizeOf (length img)) refl .1)
+
+  -- it leaves the state as it is, and the row too where it is refused
+  told-swept : (b : Bool) (es : List Entry) (s : State) → s .phase ≡ cond b 2 3
       → (stateAfter L img s es ≡ s) × (rowAfter L img s es ≡ cond b (map (told L img) es) es)
-  second-swept true es s h = all-told es s h
-  second-swept false es s h = all-passed es s h
+  told-swept true es s h = subst (λ (p : ℕ). (stateFrom L img p s es ≡ s) × (rowFrom L img p s es ≡ map (told L img) es)) (sym h) (all-told es s)
+  told-swept false es s h = subst (λ (p : ℕ). (stateFrom L img p s es ≡ s) × (rowFrom L img p s es ≡ es)) (sym h) (all-passed es s)
 
   -- a refusal is no answer
   refusal-never : (s : State) {n : ℕ} → refusalOf s ≡ accepted n → ⊥
@@ -229,7 +293,7 @@ module _ (L : Layout) (img : List ℕ) where
       go false true e = never-refused (sym e)
       go false false e = never-refused (sym e)
 
-  -- the entries after the second are the machine's
+  -- the entries after it are the machine's
   entries-swept : (s : State) (es : List Entry) → outcomeOf s ≡ totalOf (rowOf L img (hashes es))
       → cond (eqb (s .number) 0) (map (told L img) es) es ≡ entriesOf (rowOf L img (hashes es)) es
   entries-swept s es e = go (eqb (s .number) 0) (rowOf L img (hashes es)) refl e
@@ -241,41 +305,50 @@ module _ (L : Layout) (img : List ℕ) where
       go false (accepted w) h e = absurd (refusal-never s e)
       go false (refused n i) h e = refl
 
-  -- each entry is ready in its turn, in both
-  pub first-ready : Fits64 L → (es : List Entry) → AllReady L img (begun (sizeOf (length img))) es
-  first-ready fits es = go (sizeOf (length img)) refl
+  -- each entry is ready in its turn, in all three
+  pub first-ready : (es : List Entry) → AllReady L img (begun (sizeOf (length img))) es
+  first-ready es = go (sizeOf (length img)) refl
     where
       go : (o : Option ℕ) → sizeOf (length img) ≡ o → AllReady L img (begun o) es
-      go none e = passed-ready es (begun none) refl
-      go (some B) e = tested-ready fits es (begun (some B)) (λ bytes. known-begun L img e) refl
+      go none e = passed-ready es (begun none)
+      go (some B) e = fetched-ready es (begun (some B)) (whole-of img e)
 
-  pub second-ready : (es : List Entry)
-      → AllReady L img (resumed (testedState L img es)) (testedRow L img es)
-  second-ready es = rw (first .1) (go (eqb (s .number) 0) (rowOf L img (hashes es)) refl refl (first .0))
+  pub second-ready : Fits64 L → (es : List Entry) → AllReady L img (resumed (fetchedState L img es)) (fetchedRow L img es)
+  second-ready fits es =
+      let f = fetched-swept es (sizeOf (length img)) in
+      rw (f .0, f .1) (go (sizeOf (length img)) refl)
     where
-      s : State
-      s = stateAfter L img (begun (sizeOf (length img))) es
+      go : (o : Option ℕ) → sizeOf (length img) ≡ o → AllReady L img (opened o) es
+      go none e = passed-ready es (opened none)
+      go (some B) e = tested-ready fits es (opened (some B)) (λ bytes. known-opened L img e)
 
-      first : (outcomeOf s ≡ totalOf (rowOf L img (hashes es))) × (rowAfter L img (begun (sizeOf (length img))) es ≡ es)
-      first = first-swept es (sizeOf (length img)) refl
+  pub third-ready : (es : List Entry) → AllReady L img (resumed (testedState L img es)) (testedRow L img es)
+  third-ready es =
+      let t = third-starts es in
+      rw (t .0, t .1) (go (eqb (run es .number) 0) (rowOf L img (hashes es)) refl refl (tested-swept es (sizeOf (length img)) refl .0))
+    where
+      -- in the phase that the test led to
+      in-phase : (b : Bool) → eqb (run es .number) 0 ≡ b → ReadyFrom L img (cond b 2 3) (settled (run es)) es → AllReady L img (settled (run es)) es
+      in-phase b z = subst (λ (c : Bool). ReadyFrom L img (cond c 2 3) (settled (run es)) es) (sym z)
 
-      go : (b : Bool) (r : Result Row) → eqb (s .number) 0 ≡ b → rowOf L img (hashes es) ≡ r → cond b (accepted (s .total)) (refusalOf s) ≡ totalOf r
-          → AllReady L img (resumed s) es
+      go : (b : Bool) (r : Result Row) → eqb (run es .number) 0 ≡ b → rowOf L img (hashes es) ≡ r
+          → cond b (accepted (run es .total)) (refusalOf (run es)) ≡ totalOf r → AllReady L img (settled (run es)) es
       go true (accepted w) z h e =
           let a = row-answered L img (hashes es) h in
-          told-ready es (a .asks) (resumed s) (rw z) (rw (first-size es (a .sized)) (whole-of img (a .sized)))
+          in-phase true z (told-ready es (a .asks) (settled (run es)) (rw (run-size es (a .sized)) (whole-of img (a .sized))))
       go true (refused n i) z h e = absurd (never-refused e)
-      go false r z h e = passed-ready es (resumed s) (rw z)
+      go false r z h e = in-phase false z (passed-ready es (settled (run es)))
 
-  -- what both leave is the machine's row
-  pub both-swept : (es : List Entry) → Below (2 ^ 64) (hashes es) → {r : RowResult} {new : List Entry} → rowedOf r ≡ outcomeOf (toldState L img es)
+  -- what the three leave is the machine's row
+  pub all-swept : (es : List Entry) → Below (2 ^ 64) (hashes es) → {r : RowResult} {new : List Entry} → rowedOf r ≡ outcomeOf (toldState L img es)
       → new ≡ toldRow L img es → Rows L img es r new
-  both-swept es small p q =
-      let s = testedState L img es in
-      let first = first-swept es (sizeOf (length img)) refl in
-      let second = second-swept (eqb (s .number) 0) es (resumed s) refl in
+  all-swept es small p q =
+      let s = run es in
+      let t = third-starts es in
+      let tested = tested-swept es (sizeOf (length img)) refl in
+      let told = told-swept (eqb (s .number) 0) es (settled s) refl in
       record {
         held = small;
-        answer = (rw (first .1) at p) ∙ ap outcomeOf (second .0) ∙ first .0;
-        entries = (rw (first .1) at q) ∙ second .1 ∙ entries-swept s es (first .0);
+        answer = p ∙ ap outcomeOf ((λ i. stateAfter L img (t .0 i) (t .1 i)) ∙ told .0) ∙ tested .0;
+        entries = q ∙ (λ i. rowAfter L img (t .0 i) (t .1 i)) ∙ told .1 ∙ entries-swept s es (tested .0);
       }

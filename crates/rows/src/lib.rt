@@ -1,5 +1,5 @@
-// A row of asks, lent as a slice of entries. It is swept twice: the first time it is tested, the second time each entry receives its answer, unless
-// the row is refused. What is done with an entry is the crate grouping's; here is the walk along the row alone.
+// A row of asks, lent as a slice of entries. It is swept three times: its front buckets are fetched, then it is tested, then each entry receives its
+// answer, unless the row is refused. What is done with an entry is the crate grouping's; here is the walk along the row alone.
 
 use answers::Entry;
 use grouping::State;
@@ -18,10 +18,11 @@ pub fn sweep(image: &[u8], row: &mut [Entry], start: State) -> State
         × (now (row .exit) ≡ rowAfter layout1 (now (image .entry)) start (now (row .entry)))
         × Below (2 ^ 64) (hashes (now (row .entry))) ⌝ }
 {
+    let phase = start.phase;
     let mut s = start;
     let mut i: usize = 0;
     while i < row.len() {
-        let t = turn(image, s, row[i]);
+        let t = turn(image, phase, s, row[i]);
         row[i] = t.entry;
         s = t.state;
         i += 1;

@@ -10,6 +10,7 @@ use native.Mathlib.Numerals.{add-one}
 use native.Mathlib.Decide.{decLe, ℕ-discrete}
 use native.Mathlib.Omega.{arith}
 use lib.ListN.{length, getD}
+use lib.Bits.{bitOr, or-shifted-r}
 use lib.Pow.{pow-pos, pow-add}
 use lib.Count.{trailingZeros}
 use Rattle.multiset.specs.Multisets.{below, copies, slotOf}
@@ -30,19 +31,19 @@ pub record FirstMark (f : ℕ → ℕ) (t marks : ℕ) : Type 0 where
   pub rest : ℕ
   pub here : f at ≡ t
   pub others : (i : ℕ) → i < at → f i ≡ t → ⊥
-  pub marks-are : marks ≡ rest * 2 ^ suc at + 2 ^ at
+  pub marks-are : marks ≡ rest * 2 ^ suc (suc at) + 2 ^ suc at
 
--- a mark 2 ^ i for each i below n at which f takes t
+-- a mark 2 ^ suc i for each i below n at which f takes t
 pub record Marked (f : ℕ → ℕ) (t n marks : ℕ) : Type 0 where
-  pub small : marks < 2 ^ n
+  pub small : marks < 2 ^ suc n
   pub nowhere : marks ≡ 0 → (i : ℕ) → i < n → f i ≡ t → ⊥
   pub first : 0 < marks → (m : FirstMark f t marks) × (m .at < n)
 
 pub marked-start : (f : ℕ → ℕ) (t : ℕ) → Marked f t 0 0
-marked-start f t = record { small = pow-pos 0; nowhere = λ e i l. absurd (omega arith); first = λ l. absurd (omega arith) }
+marked-start f t = record { small = pow-pos 1; nowhere = λ e i l. absurd (omega arith); first = λ l. absurd (omega arith) }
 
 module _ (f : ℕ → ℕ) (t n marks : ℕ) (m : Marked f t n marks) where
-  double : 2 ^ suc n ≡ 2 ^ n + 2 ^ n
+  double : 2 ^ suc (suc n) ≡ 2 ^ suc n + 2 ^ suc n
   double = omega arith
 
   pub marked-miss : (f n ≡ t → ⊥) → Marked f t (n + 1) marks
@@ -53,25 +54,29 @@ module _ (f : ℕ → ℕ) (t n marks : ℕ) (m : Marked f t n marks) where
   }
 
   -- the first mark stays the first
-  later : (p : FirstMark f t marks) → p .at < n → (q : FirstMark f t (marks + 2 ^ n)) × (q .at < suc n)
+  later : (p : FirstMark f t marks) → p .at < n → (q : FirstMark f t (marks + 2 ^ suc n)) × (q .at < suc n)
   later p l =
       let d : ℕ = n - suc (p .at) in
-      let e : n ≡ d + suc (p .at) = omega arith in
-      let q : 2 ^ n ≡ 2 ^ d * 2 ^ suc (p .at) = ap (λ (k : ℕ). 2 ^ k) e ∙ pow-add 2 d (suc (p .at)) in (
+      let e : suc n ≡ d + suc (suc (p .at)) = omega arith in
+      let q : 2 ^ suc n ≡ 2 ^ d * 2 ^ suc (suc (p .at)) = ap (λ (k : ℕ). 2 ^ k) e ∙ pow-add 2 d (suc (suc (p .at))) in (
         record {
           at = p .at;
           rest = p .rest + 2 ^ d;
           here = p .here;
           others = p .others;
-          marks-are = omega (arith, p .marks-are, q, add-mul (p .rest) (2 ^ d) (2 ^ suc (p .at)));
+          marks-are = omega (arith, p .marks-are, q, add-mul (p .rest) (2 ^ d) (2 ^ suc (suc (p .at))));
         },
         omega arith,
       )
 
-  pub marked-hit : f n ≡ t → Marked f t (n + 1) (marks + 2 ^ n)
-  marked-hit h = rw (add-one n) record {
+  -- a new mark is above those that are there
+  with-mark : bitOr marks (2 ^ suc n) ≡ marks + 2 ^ suc n
+  with-mark = ap (bitOr marks) (omega arith) ∙ or-shifted-r 1 (suc n) marks (m .small) ∙ omega arith
+
+  pub marked-hit : f n ≡ t → Marked f t (n + 1) (bitOr marks (2 ^ suc n))
+  marked-hit h = rw (with-mark, add-one n) record {
     small = omega (arith, m .small, double);
-    nowhere = λ e i l. absurd (omega (arith, pow-pos n));
+    nowhere = λ e i l. absurd (omega (arith, pow-pos (suc n)));
     first = λ l. elim (ℕ-discrete marks 0) [
       | yes e ↦ (record { at = n; rest = 0; here = h; others = m .nowhere e; marks-are = rw e (omega arith) }, omega arith)
       | no e ↦ let p = m .first (omega arith) in later (p .0) (p .1)
@@ -95,12 +100,14 @@ module _ (L : Layout) (b : List ℕ) (t marks : ℕ) (m : Marked (tagAt L false 
   pub first-none : marks ≡ 0 → FirstTagged L b t (L .frontSlots)
   first-none e = record { stop = omega arith; others = m .nowhere e; here = λ l. absurd (omega arith) }
 
-  pub first-found : (bits : ℕ) → L .frontSlots ≤ bits → 0 < marks
-      → FirstTagged L b t (trailingZeros bits marks) × (trailingZeros bits marks < L .frontSlots)
+  pub first-found : (bits : ℕ) → L .frontSlots < bits → 0 < marks
+      → (0 < trailingZeros bits marks) × FirstTagged L b t (trailingZeros bits marks - 1)
   first-found bits room l =
       let p = m .first l in
-      let e : trailingZeros bits marks ≡ p .0 .at = ap (trailingZeros bits) (p .0 .marks-are) ∙ trailing-mark bits (p .0 .rest) (p .0 .at) (omega (arith, p .1)) in
-      rw e (record { stop = omega (arith, p .1); others = p .0 .others; here = λ _. p .0 .here }, p .1)
+      let e : trailingZeros bits marks ≡ suc (p .0 .at) =
+      ap (trailingZeros bits) (p .0 .marks-are) ∙ trailing-mark bits (p .0 .rest) (suc (p .0 .at)) (omega (arith, p .1)) in
+      let d : suc (p .0 .at) - 1 ≡ p .0 .at = omega arith in
+      rw (e, d) (omega arith, record { stop = omega (arith, p .1); others = p .0 .others; here = λ _. p .0 .here })
 
 -- ---- a key
 

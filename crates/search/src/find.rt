@@ -93,17 +93,18 @@ fn seek_in(b: &[u8], crumbs: bool, mini: u32, low: u32, end: u32) -> usize
     NOWHERE
 }
 
-// The lowest slot of a front bucket that holds a tag, in use or not, or NOWHERE. No slot ends the loop, so that many are compared at once.
+// The lowest slot of a front bucket that holds a tag, in use or not, or NOWHERE. No slot ends the loop, and the marks are from 2 on and alike, so that
+// many slots are compared at once.
 fn first_tagged(b: &[u8], tag: u32) -> usize
     requires { ⌜ length (now b) ≡ 64 ⌝ }
     ensures { λ r. ⌜ FirstTagged layout1 (now (b .entry)) tag r ⌝ }
 {
     let mut marks: u32 = 0;
-    let mut mark: u32 = 1;
+    let mut mark: u32 = 2;
     let mut slot: usize = 0;
     while slot < FRONT_SLOTS {
         if slots::tag_of(b, slot) == tag {
-            marks += mark;
+            marks |= mark;
         }
         mark = mark * 2;
         slot += 1;
@@ -111,7 +112,7 @@ fn first_tagged(b: &[u8], tag: u32) -> usize
     if marks == 0 {
         return NOWHERE;
     }
-    u32::trailing_zeros(marks) as usize
+    (u32::trailing_zeros(marks) as usize) - 1
 }
 
 // The lowest slot of a key in a front bucket, or NOWHERE: the first with its tag, if that is one of its mini-bucket's. Tags of other mini-buckets

@@ -1,6 +1,6 @@
 -- One entry of a row: what of its group's buckets has been read, and what the entry makes of the state and of itself.
 use mathlib.Core.Path.{_≡_}
-use Prim.Native.Nat.{ℕ, suc, _+_, _*_, _-_, _<_, _≤_, max}
+use Prim.Native.Nat.{ℕ, suc, _+_, _*_, _-_, _^_, _%_, _<_, _≤_, max}
 use mathlib.Core.Bool.{cond}
 use mathlib.Core.List.{List}
 use mathlib.Core.Option.{Option, none, some}
@@ -11,7 +11,7 @@ use Rattle.crumbmap.specs.Layouts.{Layout, keys, fronts}
 use Rattle.crumbmap.specs.Fingerprints.{frontOf, keyOf}
 use Rattle.crumbmap.specs.CrumbMap.{firstBucket, secondBucket, firstCrumb}
 use Rattle.machine.specs.Results.{Result, accepted, refused, andThen, number}
-use Rattle.machine.specs.Images.{inFront, backAt}
+use Rattle.machine.specs.Images.{bucketAt, inFront, backAt}
 use Rattle.machine.specs.Machine.{Asked, askAt}
 use Rattle.machine.specs.Calls.{askOf}
 use Rattle.answers.specs.Rows.{receivedOf}
@@ -44,6 +44,19 @@ Bytes img = (i : ℕ) → getD img i 0 < 256
 -- how many buckets of f's group are read already, where f is the state's front bucket or one behind it
 abbrev pub held : State → ℕ → ℕ
 held s f = cond (ltb (s .front) f) 0 (s .reads)
+
+-- the state after an entry that is fetched: a byte of its front bucket is loaded, to no end but that
+abbrev pub fetched : List ℕ → State → ℕ → State
+fetched img s k = record {
+  phase = s .phase;
+  number = s .number;
+  reads = s .reads;
+  bound = s .bound;
+  size = s .size;
+  table = s .table;
+  front = s .front;
+  total = (s .total + getD (bucketAt (frontOf (s .size) k) img) 0 0) % 2 ^ 64;
+}
 
 module _ (L : Layout) where
   -- "Front(f) holds 28 and g exceeds its largest" is false of keys below this one: f's front bucket alone settles them
@@ -155,27 +168,38 @@ module _ (L : Layout) where
   abbrev pub told : List ℕ → Entry → Entry
   told img e = toldBy e (askOf L img (e .hash))
 
-  unfoldable pub turned : List ℕ → State → Entry → Turned
-  turned img s e =
-      cond (eqb (s .phase) 0) (record { state = tested img s (e .hash); entry = e })
-      (cond (eqb (s .phase) 1) (record { state = s; entry = told img e }) (record { state = s; entry = e }))
+  -- by the phase p
+  unfoldable pub turned : List ℕ → ℕ → State → Entry → Turned
+  turned img p s e =
+      cond (eqb p 0) (record { state = fetched img s (e .hash); entry = e })
+      (cond (eqb p 1) (record { state = tested img s (e .hash); entry = e })
+      (cond (eqb p 2) (record { state = s; entry = told img e }) (record { state = s; entry = e })))
 
-  -- what is true where it has its turn: what the state says while the row is tested; that its ask is accepted once it is to be told
-  pub record Ready (img : List ℕ) (s : State) (k : ℕ) : Type 0 where
-    pub testing : s .phase ≡ 0 → Bytes img → Known img s
-    pub telling : s .phase ≡ 1 → Whole (s .size) img × (number (askOf L img k) ≡ 0)
+  -- what is true where it has its turn: the image's size; what the state says while the row is tested; that its ask is accepted once it is to
+  -- be told
+  pub record Ready (img : List ℕ) (p : ℕ) (s : State) (k : ℕ) : Type 0 where
+    pub fetching : p ≡ 0 → Whole (s .size) img
+    pub testing : p ≡ 1 → Bytes img → Known img s
+    pub telling : p ≡ 2 → Whole (s .size) img × (number (askOf L img k) ≡ 0)
 
--- ---- the state before the first entry, after the test, and at the end
+-- ---- the state before the first entry, between two sweeps, and at the end
 
--- by the image's size: a wrong length is refused at once
+-- in phase p with nothing read, by the image's size: a wrong length is refused at once
+abbrev pub startedAt : ℕ → Option ℕ → State
+startedAt p none = record { phase = 3; number = 1; reads = 0; bound = 0; size = 0; table = 0; front = 0; total = 0 }
+startedAt p (some B) = record { phase = p; number = 0; reads = 0; bound = 0; size = B; table = 0; front = 0; total = 0 }
+
+-- before the front buckets are fetched, and before the test
 abbrev pub begun : Option ℕ → State
-begun none = record { phase = 2; number = 1; reads = 0; bound = 0; size = 0; table = 0; front = 0; total = 0 }
-begun (some B) = record { phase = 0; number = 0; reads = 0; bound = 0; size = B; table = 0; front = 0; total = 0 }
+begun = startedAt 0
 
--- the entries receive their answers, or the row is refused
-abbrev pub resumed : State → State
-resumed s = record {
-  phase = cond (eqb (s .number) 0) 1 2;
+abbrev pub opened : Option ℕ → State
+opened = startedAt 1
+
+-- after the test the entries receive their answers, or the row is refused
+abbrev pub settled : State → State
+settled s = record {
+  phase = cond (eqb (s .number) 0) 2 3;
   number = s .number;
   reads = s .reads;
   bound = s .bound;
@@ -184,6 +208,10 @@ resumed s = record {
   front = s .front;
   total = s .total;
 }
+
+-- between two sweeps
+abbrev pub resumed : State → State
+resumed s = cond (eqb (s .phase) 0) (opened (some (s .size))) (settled s)
 
 abbrev pub outcomeOf : State → Result ℕ
 outcomeOf s =
