@@ -46,8 +46,8 @@ pub fn ask(image: &[u8], hash: u64) -> AskResult
     lookup::ask::ask(image, hash)
 }
 
-// A row of asks: each entry receives what a lone ask gives, and the total of the reads that they share comes back. It is swept twice, the first
-// time to be tested.
+// A row of asks: each entry receives what a lone ask gives, and the total of the reads that they share comes back. It is swept three
+// times: fetched, tested and told.
 pub fn row(image: &[u8], row: &mut [Entry]) -> RowResult
     ensures { λ r. ⌜ Rows layout1 (now (image .entry)) (now (row .entry)) r (now (row .exit)) ⌝ }
 {
