@@ -293,8 +293,11 @@ merge-fits a b target =
 -- ---- a row
 
 pub row-fits : (img ks : List ℕ) → Below (2 ^ 64) ks → Within rowWord cap (rowOf layout1 img ks)
+unfolding fronts
 row-fits img ks small = go (rowOf layout1 img ks) refl
   where
     go : (r : Result Row) → rowOf layout1 img ks ≡ r → Within rowWord cap r
-    go (accepted w) e = taken {a = w} (omega (arith, row-total layout1 img ks small e))
+    go (accepted w) e =
+        let t = row-total layout1 img ks small e in
+        taken {a = w} (omega (arith, t .2, sizeOf-some (length img) (t .0) (t .1)))
     go (refused n i) e = let z = row-refused layout1 img ks small e in bar n i (omega arith) (omega arith)

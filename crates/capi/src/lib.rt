@@ -1,6 +1,6 @@
 // The calls for C. Each gives one number, its answer packed: number × 2^56 + value, number 0 when accepted.
 
-mod pack;
+pub mod pack;
 
 use crate::pack::asked;
 use crate::pack::counted;

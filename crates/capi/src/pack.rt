@@ -16,7 +16,7 @@ ghost use Rattle.answers.specs.Rows.{rowedOf};
 ghost use Rattle.capi.specs.Packing.{pack, Packs, Within, nothing, placeWord, askWord, countWord, extentWord};
 
 // Number × 2^56 + value.
-pub(crate) fn packed(said: Said) -> u64
+pub fn packed(said: Said) -> u64
     requires { ⌜ Packs said ⌝ }
     ensures { λ r. ⌜ r ≡ pack said ⌝ }
 {
@@ -95,7 +95,7 @@ pub(crate) fn paged(given: PageResult) -> Said
 }
 
 // What a row of asks gives.
-pub(crate) fn rowed(given: RowResult) -> Said
+pub fn rowed(given: RowResult) -> Said
     ensures { λ s. ⌜ s ≡ saidOf itself (rowedOf given) ⌝ }
 {
     match given {

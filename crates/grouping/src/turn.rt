@@ -11,10 +11,11 @@ use answers::RowResult;
 use image::Size;
 use image::place::size_of;
 ghost use mathlib.Core.Path.{_≡_};
+ghost use mathlib.Core.Option.{some};
 ghost use Rattle.crumbmap.specs.Layouts.{layout1};
 ghost use Rattle.machine.specs.Images.{sizeOf};
 ghost use Rattle.answers.specs.Rows.{rowedOf};
-ghost use Rattle.grouping.specs.Steps.Grouping.{turned, Ready, begun, resumed, outcomeOf};
+ghost use Rattle.grouping.specs.Steps.Grouping.{turned, Ready, startedAt, begun, resumed, resultOf};
 
 // The state before the first entry, by the image's length.
 pub fn begin(len: usize) -> State
@@ -32,8 +33,15 @@ pub fn begin(len: usize) -> State
             total: 0,
         };
     };
+    started(0, size)
+}
+
+// The state before the first entry in a phase, with nothing read.
+fn started(phase: u32, size: usize) -> State
+    ensures { λ r. ⌜ r ≡ startedAt phase (some size) ⌝ }
+{
     State {
-        phase: 0,
+        phase,
         number: 0,
         reads: 0,
         bound: 0,
@@ -78,16 +86,7 @@ pub fn resume(s: State) -> State
     ensures { λ r. ⌜ r ≡ resumed s ⌝ }
 {
     if s.phase == 0 {
-        return State {
-            phase: 1,
-            number: 0,
-            reads: 0,
-            bound: 0,
-            size: s.size,
-            table: 0,
-            front: 0,
-            total: 0,
-        };
+        return started(1, s.size);
     }
     let phase = if s.number == 0 { 2 } else { 3 };
     State {
@@ -104,7 +103,7 @@ pub fn resume(s: State) -> State
 
 // What the row gives.
 pub fn outcome(s: State) -> RowResult
-    ensures { λ r. ⌜ rowedOf r ≡ outcomeOf s ⌝ }
+    ensures { λ r. ⌜ rowedOf r ≡ resultOf s ⌝ }
 {
     let number = s.number;
     if number == 0 {

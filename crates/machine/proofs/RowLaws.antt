@@ -20,7 +20,7 @@ use Rattle.machine.specs.Results.{Result, accepted, refused, andThen, or
 use Rattle.machine.specs.Images.{sizeOf, bucketAt, frontAt, backAt}
 use Rattle.machine.specs.Machine.{Asked, found, askAt}
 use Rattle.machine.specs.Calls.{askOf}
-use Rattle.machine.specs.Rows.{Row, Group, descends, joined, groups, sum, asksOf, rowOf}
+use Rattle.machine.specs.Rows.{Row, Group, descends, joined, groups, readsOf, asksOf, rowOf}
 use Rattle.machine.proofs.AcceptedLaws.{same-answer, never-refused}
 use Rattle.machine.proofs.ImageLaws.{sizeOf-some}
 
@@ -31,36 +31,36 @@ abbrev before : ℕ → ℕ → Group → List Group → Bool → List Group
 before f n h gs b = cond b (record { front = f; reads = max n (h .reads) } ∷ gs) (record { front = f; reads = n } ∷ (h ∷ gs))
 
 -- an open group, of front bucket g with r reads, before an ask of another front bucket, and before one of its own
-pub apart : (g r f n : ℕ) (gs : List Group) → eqb g f ≡ false → sum (joined g r (joined f n gs)) ≡ r + sum (joined f n gs)
+pub apart : (g r f n : ℕ) (gs : List Group) → eqb g f ≡ false → readsOf (joined g r (joined f n gs)) ≡ r + readsOf (joined f n gs)
 apart g r f n [] e = rw e
 apart g r f n (h ∷ gs) e = go (eqb f (h .front))
   where
-    go : (b : Bool) → sum (joined g r (before f n h gs b)) ≡ r + sum (before f n h gs b)
+    go : (b : Bool) → readsOf (joined g r (before f n h gs b)) ≡ r + readsOf (before f n h gs b)
     go true = rw e
     go false = rw e
 
-pub alike : (f r n : ℕ) (gs : List Group) → sum (joined f r (joined f n gs)) ≡ sum (joined f (max r n) gs)
+pub alike : (f r n : ℕ) (gs : List Group) → readsOf (joined f r (joined f n gs)) ≡ readsOf (joined f (max r n) gs)
 alike f r n [] = rw (eq-eqb f f refl)
 alike f r n (h ∷ gs) = go (eqb f (h .front))
   where
-    go : (b : Bool) → sum (joined f r (before f n h gs b)) ≡ sum (before f (max r n) h gs b)
+    go : (b : Bool) → readsOf (joined f r (before f n h gs b)) ≡ readsOf (before f (max r n) h gs b)
     go true = rw (eq-eqb f f refl) (omega arith)
     go false = rw (eq-eqb f f refl)
 
 -- its reads are in the sum; before the first ask there are none
-pub least : (g r : ℕ) (gs : List Group) → r ≤ sum (joined g r gs)
+pub least : (g r : ℕ) (gs : List Group) → r ≤ readsOf (joined g r gs)
 least g r [] = omega arith
 least g r (h ∷ gs) = go (eqb g (h .front))
   where
-    go : (b : Bool) → r ≤ sum (before g r h gs b)
+    go : (b : Bool) → r ≤ readsOf (before g r h gs b)
     go true = omega arith
     go false = omega arith
 
-pub unopened : (gs : List Group) → sum (joined 0 0 gs) ≡ sum gs
+pub unopened : (gs : List Group) → readsOf (joined 0 0 gs) ≡ readsOf gs
 unopened [] = refl
 unopened (h ∷ gs) = go (eqb 0 (h .front))
   where
-    go : (b : Bool) → sum (before 0 0 h gs b) ≡ sum (h ∷ gs)
+    go : (b : Bool) → readsOf (before 0 0 h gs b) ≡ readsOf (h ∷ gs)
     go true = omega arith
     go false = omega arith
 
@@ -137,7 +137,7 @@ module _ (L : Layout) (img : List ℕ) where
     of-row : (sizeOf (length img) ≡ none → P (refused 1 0))
         → ((B : ℕ) → sizeOf (length img) ≡ some B → descends 0 (map (frontOf B) ks) ≡ true → P (refused 10 0))
         → ((B : ℕ) → sizeOf (length img) ≡ some B → descends 0 (map (frontOf B) ks) ≡ false → (rs : List Asked) → asksOf L img ks ≡ accepted rs
-        → P (accepted (record { answers = rs; total = sum (groups (map (frontOf B) ks) rs) })))
+        → P (accepted (record { answers = rs; total = readsOf (groups (map (frontOf B) ks) rs) })))
         → ((B : ℕ) → sizeOf (length img) ≡ some B → (n i : ℕ) → asksOf L img ks ≡ refused n i → P (refused n i))
         → P (rowOf L img ks)
     unfolding rowOf
@@ -159,7 +159,7 @@ module _ (L : Layout) (img : List ℕ) where
     pub sized : sizeOf (length img) ≡ some size
     pub order : descends 0 (map (frontOf size) ks) ≡ false
     pub asks : asksOf L img ks ≡ accepted (w .answers)
-    pub total : w .total ≡ sum (groups (map (frontOf size) ks) (w .answers))
+    pub total : w .total ≡ readsOf (groups (map (frontOf size) ks) (w .answers))
 
   pub row-answered : (ks : List ℕ) {w : Row} → rowOf L img ks ≡ accepted w → Answered ks w
   row-answered ks {w} e = of-row ks (λ r. r ≡ accepted w → Answered ks w)
@@ -187,7 +187,7 @@ module _ (L : Layout) (img : List ℕ) where
   -- three reads at most for each front bucket from the open one on
   most : {B : ℕ} → sizeOf (length img) ≡ some B → 0 < B → (ks : List ℕ) {rs : List Asked} (g r : ℕ) → Below (2 ^ 64) ks
       → asksOf L img ks ≡ accepted rs → descends g (map (frontOf B) ks) ≡ false → g < fronts B → r ≤ 3
-      → sum (joined g r (groups (map (frontOf B) ks) rs)) + 3 * g ≤ 3 * fronts B
+      → readsOf (joined g r (groups (map (frontOf B) ks) rs)) + 3 * g ≤ 3 * fronts B
   most e pos [] g r small q d h few = omega arith
   most {B} e pos (k ∷ ks) g r small q d h few =
       let p = asks-split k ks q in
@@ -202,8 +202,8 @@ module _ (L : Layout) (img : List ℕ) where
       fs = map (frontOf B) ks
 
       go : (n : ℕ) (gs : List Group) → n ≤ 3 → (b c : Bool) → ltb f g ≡ b → ltb g f ≡ c → cond b true (descends f fs) ≡ false
-          → ((m : ℕ) → m ≤ 3 → descends f fs ≡ false → sum (joined f m gs) + 3 * f ≤ 3 * fronts B)
-          → sum (joined g r (joined f n gs)) + 3 * g ≤ 3 * fronts B
+          → ((m : ℕ) → m ≤ 3 → descends f fs ≡ false → readsOf (joined f m gs) + 3 * f ≤ 3 * fronts B)
+          → readsOf (joined g r (joined f n gs)) + 3 * g ≤ 3 * fronts B
       go n gs l true c x y d rest = let z : _≡_ {A = ℕ} 0 1 = cc in absurd (omega arith)
       go n gs l false true x y d rest =
           let less = ltb-true g f y in
@@ -212,15 +212,19 @@ module _ (L : Layout) (img : List ℕ) where
           let same : g ≡ f = omega (arith, ltb-false f g x, ltb-false g f y) in
           rw same (omega (arith, rest (max r n) (omega arith) d, alike f r n gs))
 
-  pub row-total : (ks : List ℕ) → Below (2 ^ 64) ks → {w : Row} → rowOf L img ks ≡ accepted w → w .total ≤ 3 * 524288
+  pub row-total : (ks : List ℕ) → Below (2 ^ 64) ks → {w : Row} → rowOf L img ks ≡ accepted w
+      → (B : ℕ) × (sizeOf (length img) ≡ some B) × (w .total ≤ 3 * fronts B)
   unfolding fronts
   row-total ks small {w} e =
       let a = row-answered ks e in
-      let h = sizeOf-some (length img) (a .size) (a .sized) in
-      omega (
-        arith,
-        unopened (groups (map (frontOf (a .size)) ks) (w .answers)),
-        most (a .sized) (h .1) ks 0 0 small (a .asks) (a .order) (omega arith) (omega arith),
+      let h = sizeOf-some (length img) (a .size) (a .sized) in (
+        a .size,
+        a .sized,
+        omega (
+          arith,
+          unopened (groups (map (frontOf (a .size)) ks) (w .answers)),
+          most (a .sized) (h .1) ks 0 0 small (a .asks) (a .order) (omega arith) (omega arith),
+        ),
       )
 
   -- refused with 3 and a table number only

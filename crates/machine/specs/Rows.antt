@@ -36,9 +36,10 @@ groups [] rs = []
 groups (f ∷ fs) [] = []
 groups (f ∷ fs) (a ∷ rs) = joined f (a .reads) (groups fs rs)
 
-abbrev pub sum : List Group → ℕ
-sum [] = 0
-sum (g ∷ gs) = g .reads + sum gs
+-- "the sum, over such groups"
+abbrev pub readsOf : List Group → ℕ
+readsOf [] = 0
+readsOf (g ∷ gs) = g .reads + readsOf gs
 
 module _ (L : Layout) where
   -- the lone asks of hashes; the first that is refused refuses the row
@@ -52,4 +53,4 @@ module _ (L : Layout) where
       andThen (sized img) λ B.
       let fs : List ℕ = map (frontOf B) ks in
       cond (descends 0 fs) (refused 10 0)
-      (andThen (asksOf img ks) λ rs. accepted (record { answers = rs; total = sum (groups fs rs) }))
+      (andThen (asksOf img ks) λ rs. accepted (record { answers = rs; total = readsOf (groups fs rs) }))

@@ -3,8 +3,8 @@
 
 use crate::Outcome;
 use answers::Entry;
-use answers::RowResult;
-use answers::pairs::refused;
+use capi::pack::packed;
+use capi::pack::rowed;
 use grouping::State;
 use grouping::turn::begin;
 use grouping::turn::outcome;
@@ -13,7 +13,10 @@ use grouping::turn::turn;
 use std::num::wrapping_add_u64;
 use stored::sum::of_page;
 ghost use mathlib.Core.Path.{_≡_};
+ghost use Prim.Native.Nat.{_^_};
+ghost use Rattle.multiset.specs.Multisets.{Below};
 ghost use Rattle.crumbmap.specs.Layouts.{layout1};
+ghost use Rattle.answers.specs.Rows.{hashes};
 ghost use Rattle.rows.specs.Steps.Sweeps.{stateAfter, rowAfter, AllReady};
 ghost use Rattle.replay.specs.Rows.{listed};
 
@@ -36,7 +39,7 @@ pub fn row(image: &[u8], p: u64, q: usize) -> Outcome {
     let fetched = sweep(image, entries, begin(image.len()));
     let tested = sweep(image, fetched.row, resume(fetched.state));
     let told = sweep(image, tested.row, resume(tested.state));
-    let answer = packed(outcome(told.state));
+    let answer = packed(rowed(outcome(told.state)));
     Outcome::Said(11, answer, sum_of(image, told.row))
 }
 
@@ -67,11 +70,12 @@ fn entry_of(hash: u64) -> Entry {
     }
 }
 
-// Every entry in its turn, from the state `start`.
+// Every entry in its turn, from the state `start`; beside what it leaves, that the hashes are of 64 bits.
 fn sweep(image: &[u8], row: Entries, start: State) -> Swept
     requires { ⌜ AllReady layout1 (now image) start (listed row) ⌝ }
-    ensures { λ r. ⌜ r .state ≡ stateAfter layout1 (now (image .entry)) start (listed row) ⌝ }
-    ensures { λ r. ⌜ listed (r .row) ≡ rowAfter layout1 (now (image .entry)) start (listed row) ⌝ }
+    ensures { λ r. ⌜ (r .state ≡ stateAfter layout1 (now (image .entry)) start (listed row))
+        × (listed (r .row) ≡ rowAfter layout1 (now (image .entry)) start (listed row))
+        × Below (2 ^ 64) (hashes (listed row)) ⌝ }
 {
     let phase = start.phase;
     let a = turn(image, phase, start, row.first);
@@ -87,17 +91,6 @@ fn sweep(image: &[u8], row: Entries, start: State) -> Swept
         third,
     };
     Swept { state, row }
-}
-
-// Number × 2^56 + value, as the calls for C have it.
-fn packed(given: RowResult) -> u64 {
-    match given {
-        RowResult::Accepted(total) => total as u64,
-        RowResult::Refused(why) => {
-            let said = refused(why);
-            wrapping_add_u64(said.number << 56, said.value)
-        }
-    }
 }
 
 // The checksum of the image and of the entries, every field as a number.

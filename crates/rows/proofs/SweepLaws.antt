@@ -16,7 +16,7 @@ use Rattle.buckets.specs.Buckets.{Fits64}
 use Rattle.machine.specs.Results.{Result, accepted, refused, andThen}
 use Rattle.machine.specs.Images.{sizeOf}
 use Rattle.machine.specs.Machine.{Asked, askAt}
-use Rattle.machine.specs.Rows.{Row, Group, descends, joined, groups, sum, asksOf, rowOf}
+use Rattle.machine.specs.Rows.{Row, Group, descends, joined, groups, readsOf, asksOf, rowOf}
 use Rattle.machine.proofs.AcceptedLaws.{never-refused}
 use Rattle.machine.proofs.RowLaws.{apart, alike, least, unopened, ask-at, ask-refused, row-answered, asks-split}
 use Rattle.answers.specs.Rows.{hashes, receivedOf, receivedAll, entriesOf, rowedOf, totalOf, Rows}
@@ -24,7 +24,7 @@ use Rattle.answers.specs.declared.Entry.{Entry}
 use Rattle.answers.specs.declared.RowResult.{RowResult}
 use Rattle.image.specs.Steps.ImageReads.{Whole}
 use Rattle.image.proofs.ImageReadLaws.{whole-of}
-use Rattle.grouping.specs.Steps.Grouping.{Bytes, held, fetched, sharing, descended, passed, advanced, tested, Known, told, turned, begun, opened, settled, resumed, outcomeOf}
+use Rattle.grouping.specs.Steps.Grouping.{Bytes, held, fetched, sharing, descended, passed, advanced, tested, Known, told, turned, begun, opened, settled, resumed, resultOf}
 use Rattle.grouping.specs.declared.State.{State}
 use Rattle.grouping.proofs.GroupLaws.{of-tested, known-opened, known-tested}
 use Rattle.rows.specs.Steps.Sweeps.{stateFrom, rowFrom, ReadyFrom, stateAfter, rowAfter, AllReady, fetchedState, fetchedRow, testedState, testedRow, toldState, toldRow}
@@ -33,14 +33,14 @@ use Rattle.rows.specs.Steps.Sweeps.{stateFrom, rowFrom, ReadyFrom, state
 
 -- what an ask of front bucket f with n reads adds: those that its group has read besides, then what the rest adds to them
 adds : (s : State) (f n : ℕ) (gs : List Group) → ltb f (s .front) ≡ false
-    → sum (joined (s .front) (s .reads) (joined f n gs)) - s .reads
-    ≡ max (held s f) n - held s f + (sum (joined f (max (held s f) n) gs) - max (held s f) n)
+    → readsOf (joined (s .front) (s .reads) (joined f n gs)) - s .reads
+    ≡ max (held s f) n - held s f + (readsOf (joined f (max (held s f) n) gs) - max (held s f) n)
 adds s f n gs d = go (ltb (s .front) f) refl
   where
     rest : ℕ → ℕ
-    rest m = max m n - m + (sum (joined f (max m n) gs) - max m n)
+    rest m = max m n - m + (readsOf (joined f (max m n) gs) - max m n)
 
-    go : (b : Bool) → ltb (s .front) f ≡ b → sum (joined (s .front) (s .reads) (joined f n gs)) - s .reads ≡ rest (cond b 0 (s .reads))
+    go : (b : Bool) → ltb (s .front) f ≡ b → readsOf (joined (s .front) (s .reads) (joined f n gs)) - s .reads ≡ rest (cond b 0 (s .reads))
     go true e =
         let z : max 0 n ≡ n = omega arith in
         rw z (omega (arith, apart (s .front) (s .reads) f n gs (ne-eqb (s .front) f (λ q. omega (arith, ltb-true (s .front) f e))), least f n gs))
@@ -157,7 +157,7 @@ module _ (L : Layout) (img : List ℕ) where
 
   -- the total with the asks that are still to come: the open group stands before their groups
   abbrev totalled : State → List ℕ → List Asked → ℕ
-  totalled s fs rs = s .total + (sum (joined (s .front) (s .reads) (groups fs rs)) - s .reads)
+  totalled s fs rs = s .total + (readsOf (joined (s .front) (s .reads) (groups fs rs)) - s .reads)
 
   -- the result that is to come
   abbrev awaited : State → List ℕ → Result ℕ
@@ -168,9 +168,9 @@ module _ (L : Layout) (img : List ℕ) where
 
   -- an entry in its order, before any refusal, where the claim holds of those behind it
   module _ (k : ℕ) (ks : List ℕ) (s : State) (e : sizeOf (length img) ≡ some (s .size)) (d : ltb (frontOf (s .size) k) (s .front) ≡ false)
-      (z : eqb (s .number) 0 ≡ true) (rest : (t : State) → sizeOf (length img) ≡ some (t .size) → outcomeOf (runs t ks) ≡ awaited t ks) where
+      (z : eqb (s .number) 0 ≡ true) (rest : (t : State) → sizeOf (length img) ≡ some (t .size) → resultOf (runs t ks) ≡ awaited t ks) where
     advanced-outcome : (r : Result Asked) → askAt L (s .size) (frontOf (s .size) k) (keyOf L k) img ≡ r
-        → outcomeOf (runs (advanced L img s (frontOf (s .size) k) (andThen r λ a. accepted (max (held s (frontOf (s .size) k)) (a .reads)))) ks)
+        → resultOf (runs (advanced L img s (frontOf (s .size) k) (andThen r λ a. accepted (max (held s (frontOf (s .size) k)) (a .reads)))) ks)
         ≡ awaited s (k ∷ ks)
     unfolding asksOf
     advanced-outcome (accepted a) h = rest t e ∙ rw (d, z, ask-at L img e k, h) (ap (cond (descends f fs) (refused 10 0)) (go (asksOf L img ks)))
@@ -193,12 +193,12 @@ module _ (L : Layout) (img : List ℕ) where
         rest (advanced L img s f (refused n i)) e ∙ rw (d, z, ask-at L img e k, h, ask-refused L (s .size) f (keyOf L k) img h .0)
 
   -- the result is the one that was to come
-  runs-outcome : (ks : List ℕ) (s : State) → sizeOf (length img) ≡ some (s .size) → outcomeOf (runs s ks) ≡ awaited s ks
+  runs-outcome : (ks : List ℕ) (s : State) → sizeOf (length img) ≡ some (s .size) → resultOf (runs s ks) ≡ awaited s ks
   unfolding asksOf
   runs-outcome [] s e = let t : totalled s [] [] ≡ s .total = omega arith in rw t
   runs-outcome (k ∷ ks) s e =
       let f = frontOf (s .size) k in
-      of-tested L img s f (keyOf L k) (λ t. outcomeOf (runs t ks) ≡ awaited s (k ∷ ks))
+      of-tested L img s f (keyOf L k) (λ t. resultOf (runs t ks) ≡ awaited s (k ∷ ks))
       (λ d. runs-outcome ks (descended L s f) e ∙ rw d (either (descends f (map (frontOf (s .size)) ks)) (refused 10 0)))
       (λ d z. advanced-outcome k ks s e d z (runs-outcome ks) (askAt L (s .size) f (keyOf L k) img) refl)
       (λ d z. runs-outcome ks (passed L s f) e ∙ rw (d, z))
@@ -240,7 +240,7 @@ module _ (L : Layout) (img : List ℕ) where
       let f = fetched-swept es (sizeOf (length img)) in
       ((λ i. stateAfter L img (f .0 i) (f .1 i)), (λ i. rowAfter L img (f .0 i) (f .1 i)))
 
-  sized-outcome : {B : ℕ} → sizeOf (length img) ≡ some B → (ks : List ℕ) → outcomeOf (runs (opened (some B)) ks) ≡ totalOf (rowOf L img ks)
+  sized-outcome : {B : ℕ} → sizeOf (length img) ≡ some B → (ks : List ℕ) → resultOf (runs (opened (some B)) ks) ≡ totalOf (rowOf L img ks)
   unfolding rowOf
   sized-outcome {B} e ks = runs-outcome ks (opened (some B)) e ∙ rw e (go (descends 0 (map (frontOf B) ks)) (asksOf L img ks))
     where
@@ -248,16 +248,16 @@ module _ (L : Layout) (img : List ℕ) where
       fs = map (frontOf B) ks
 
       go : (b : Bool) (q : Result (List Asked)) → cond b (refused 10 0) (andThen q λ rs. accepted (totalled (opened (some B)) fs rs))
-          ≡ totalOf (cond b (refused 10 0) (andThen q λ rs. accepted (record { answers = rs; total = sum (groups fs rs) })))
+          ≡ totalOf (cond b (refused 10 0) (andThen q λ rs. accepted (record { answers = rs; total = readsOf (groups fs rs) })))
       go true q = refl
       go false (accepted rs) = ap accepted (omega (arith, unopened (groups fs rs)))
       go false (refused n i) = refl
 
   tested-swept : (es : List Entry) (o : Option ℕ) → sizeOf (length img) ≡ o
-      → (outcomeOf (stateAfter L img (opened o) es) ≡ totalOf (rowOf L img (hashes es))) × (rowAfter L img (opened o) es ≡ es)
+      → (resultOf (stateAfter L img (opened o) es) ≡ totalOf (rowOf L img (hashes es))) × (rowAfter L img (opened o) es ≡ es)
   unfolding rowOf
   tested-swept es none e = let p = all-passed es (opened none) in (rw (p .0, e), p .1)
-  tested-swept es (some B) e = let p = all-tested es (opened (some B)) in (ap outcomeOf (p .0) ∙ sized-outcome e (hashes es), p .1)
+  tested-swept es (some B) e = let p = all-tested es (opened (some B)) in (ap resultOf (p .0) ∙ sized-outcome e (hashes es), p .1)
 
   -- where it was tested, the entries are told next, or the row is refused
   tested-resumed : (s : State) → s .phase ≡ 1 → resumed s ≡ settled s
@@ -294,7 +294,7 @@ module _ (L : Layout) (img : List ℕ) where
       go false false e = never-refused (sym e)
 
   -- the entries after it are the machine's
-  entries-swept : (s : State) (es : List Entry) → outcomeOf s ≡ totalOf (rowOf L img (hashes es))
+  entries-swept : (s : State) (es : List Entry) → resultOf s ≡ totalOf (rowOf L img (hashes es))
       → cond (eqb (s .number) 0) (map (told L img) es) es ≡ entriesOf (rowOf L img (hashes es)) es
   entries-swept s es e = go (eqb (s .number) 0) (rowOf L img (hashes es)) refl e
     where
@@ -340,7 +340,7 @@ module _ (L : Layout) (img : List ℕ) where
       go false r z h e = in-phase false z (passed-ready es (settled (run es)))
 
   -- what the three leave is the machine's row
-  pub all-swept : (es : List Entry) → Below (2 ^ 64) (hashes es) → {r : RowResult} {new : List Entry} → rowedOf r ≡ outcomeOf (toldState L img es)
+  pub all-swept : (es : List Entry) → Below (2 ^ 64) (hashes es) → {r : RowResult} {new : List Entry} → rowedOf r ≡ resultOf (toldState L img es)
       → new ≡ toldRow L img es → Rows L img es r new
   all-swept es small p q =
       let s = run es in
@@ -349,6 +349,6 @@ module _ (L : Layout) (img : List ℕ) where
       let told = told-swept (eqb (s .number) 0) es (settled s) refl in
       record {
         held = small;
-        answer = p ∙ ap outcomeOf ((λ i. stateAfter L img (t .0 i) (t .1 i)) ∙ told .0) ∙ tested .0;
+        answer = p ∙ ap resultOf ((λ i. stateAfter L img (t .0 i) (t .1 i)) ∙ told .0) ∙ tested .0;
         entries = q ∙ (λ i. rowAfter L img (t .0 i) (t .1 i)) ∙ told .1 ∙ entries-swept s es (tested .0);
       }

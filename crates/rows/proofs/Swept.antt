@@ -14,7 +14,7 @@ use Rattle.machine.specs.Images.{sizeOf}
 use Rattle.answers.specs.Rows.{hashes, rowedOf, Rows}
 use Rattle.answers.specs.declared.Entry.{Entry}
 use Rattle.answers.specs.declared.RowResult.{RowResult}
-use Rattle.grouping.specs.Steps.Grouping.{turned, Ready, begun, resumed, outcomeOf}
+use Rattle.grouping.specs.Steps.Grouping.{turned, Ready, begun, resumed, resultOf}
 use Rattle.grouping.specs.declared.State.{State}
 use Rattle.grouping.specs.declared.Turned.{Turned}
 use Rattle.rows.specs.Steps.Sweeps.{stateFrom, rowFrom, ReadyFrom, stateAfter, rowAfter, AllReady}
@@ -92,6 +92,6 @@ module _ (L : Layout) (img : List ℕ) (ys : List Entry) (s₀ : State) (e₀ : 
       ready-third = rw (e₂, l₂ .0, l₂ .1, e₁, l₁ .0, l₁ .1, e₀) (third-ready L img ys)
 
       -- what the three leave is the machine's row
-      pub rowed : (r₃ : State) (zs₃ : List Entry) (a : RowResult) → Leaves L img s₂ zs₂ r₃ zs₃ → rowedOf a ≡ outcomeOf r₃ → Rows L img ys a zs₃
+      pub rowed : (r₃ : State) (zs₃ : List Entry) (a : RowResult) → Leaves L img s₂ zs₂ r₃ zs₃ → rowedOf a ≡ resultOf r₃ → Rows L img ys a zs₃
       rowed r₃ zs₃ a l₃ e₃ =
           all-swept L img ys (l₁ .2) (rw (e₃, l₃ .0, e₂, l₂ .0, l₂ .1, e₁, l₁ .0, l₁ .1, e₀)) (rw (l₃ .1, e₂, l₂ .0, l₂ .1, e₁, l₁ .0, l₁ .1, e₀))

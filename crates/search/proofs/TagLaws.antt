@@ -1,5 +1,5 @@
--- The first slot of a front bucket that holds a tag, by a mark for each slot that does (`marked-start`, `marked-hit`, `marked-miss`, `marked-first`),
--- and where that slot is the one of a key (`tag-none`, `tag-slot`), at any layout.
+-- The first slot of a front bucket that holds a tag, by a mark for each slot that does (`marked-start`, `marked-hit`, `marked-miss`; `first-none`,
+-- `first-found`), and where that slot is the one of a key (`tag-none`, `tag-slot`), at any layout.
 use mathlib.Core.Path.{_≡_, refl, sym, ap, _∙_}
 use Prim.Native.Nat.{ℕ, zero, suc, _+_, _*_, _-_, _/_, _%_, _^_, _≤_, _<_}
 use mathlib.Core.Bool.{false}
@@ -25,7 +25,7 @@ use Rattle.search.specs.Steps.Searches.{FirstTagged}
 
 -- ---- marks
 
--- f takes t at r and nowhere before, and r has the lowest mark
+-- f takes t at `at` and nowhere before, and that has the lowest mark
 pub record FirstMark (f : ℕ → ℕ) (t marks : ℕ) : Type 0 where
   pub at : ℕ
   pub rest : ℕ

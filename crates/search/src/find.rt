@@ -15,7 +15,7 @@ ghost use Rattle.multiset.specs.Digits.{highs};
 ghost use Rattle.crumbmap.specs.Layouts.{layout1, keys};
 ghost use Rattle.buckets.specs.Buckets.{frontList, backList};
 ghost use Rattle.words.specs.Select.{selectTable};
-ghost use Rattle.minifilter.specs.Steps.Readings.{SoundFront, SoundBack, Sound, membersOf};
+ghost use Rattle.minifilter.specs.Steps.Readings.{SoundFront, SoundBack, membersOf};
 ghost use Rattle.minifilter.specs.Steps.Slots.{slotsOf, spanOf, lowAt};
 ghost use Rattle.search.specs.Steps.Searches.{Scanned, RankOf, Seekable, FirstTagged, seatOf, endOf1};
 
@@ -73,19 +73,12 @@ pub fn rank_back(table: &[u8], b: &[u8], member: u32) -> usize
     rank_in(b, true, mini, member % slots::BACK_SPAN, end)
 }
 
-// The end of the mini-bucket before one, without the table.
-fn end_before(b: &[u8], crumbs: bool, mini: u32) -> u32
-    requires { ⌜ Sound layout1 crumbs (now b) × (mini < layout1 .minis) ⌝ }
-    ensures { λ r. ⌜ r ≡ endOf1 (now (b .entry)) mini ⌝ }
-{
-    select::place_of(word::word_of(b), word::rank_before(mini))
-}
-
-// The lowest slot of a member, or NOWHERE.
-fn seek_in(b: &[u8], crumbs: bool, mini: u32, low: u32, end: u32) -> usize
-    requires { ⌜ Seekable layout1 crumbs (now b) mini low × (end ≡ endOf1 (now b) mini) ⌝ }
+// The lowest slot of a member, or NOWHERE, without the table.
+fn seek_in(b: &[u8], crumbs: bool, mini: u32, low: u32) -> usize
+    requires { ⌜ Seekable layout1 crumbs (now b) mini low ⌝ }
     ensures { λ r. ⌜ r ≡ seatOf layout1 (slotOf (mini * spanOf layout1 crumbs + low) (membersOf layout1 crumbs (now (b .entry)))) ⌝ }
 {
+    let end = select::place_of(word::word_of(b), word::rank_before(mini));
     let slot = rank_in(b, crumbs, mini, low, end);
     if holds_in(b, crumbs, slot, mini, low) {
         return slot;
@@ -130,7 +123,7 @@ pub fn seek_front(b: &[u8], key: u32) -> usize
     if word::is_slot_of(word::word_of(b), mini, slot) {
         return slot;
     }
-    seek_in(b, false, mini, tag, end_before(b, false, mini))
+    seek_in(b, false, mini, tag)
 }
 
 // The lowest slot of a member in a backyard bucket, or NOWHERE.
@@ -138,13 +131,11 @@ pub fn seek_back(b: &[u8], member: u32) -> usize
     requires { ⌜ SoundBack layout1 (now b) × (member < keys layout1 * 16) ⌝ }
     ensures { λ r. ⌜ r ≡ seatOf layout1 (slotOf member (backList layout1 (now (b .entry)))) ⌝ }
 {
-    let mini = member / slots::BACK_SPAN;
     seek_in(
         b,
         true,
-        mini,
+        member / slots::BACK_SPAN,
         member % slots::BACK_SPAN,
-        end_before(b, true, mini),
     )
 }
 

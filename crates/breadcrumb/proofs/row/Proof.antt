@@ -48,7 +48,7 @@ use Rattle.machine.specs.Images.{sizeOf}
 use Rattle.answers.specs.Rows.{rowedOf, Rows}
 use Rattle.answers.specs.declared.Entry.{Entry}
 use Rattle.answers.specs.declared.RowResult.{RowResult}
-use Rattle.grouping.specs.Steps.Grouping.{begun, resumed, outcomeOf}
+use Rattle.grouping.specs.Steps.Grouping.{begun, resumed, resultOf}
 use Rattle.grouping.specs.declared.State.{State}
 use Rattle.rows.specs.Steps.Sweeps.{AllReady}
 use Rattle.rows.proofs.Swept.{Leaves, ready-first, ready-second, ready-third, rowed}
@@ -317,7 +317,7 @@ module _ {M : Type 1} (𝓤 : URA M) (H : Heap 𝓤) (A : Atoms 𝓤) (W : Given
             use1 W (raw (Outcome 𝓤 H A mem run .pre (to-outcome 𝓤 H A mem run r₃))) (called.asks 𝓤 H A W S.the-row r₃ (state-val r₃ ∷ [])) $
             calls-at ! fm (Outcome 𝓤 H A mem run) known-outcome (to-outcome 𝓤 H A mem run r₃)
             (and-then ! (load ! (from ! (stop !)) (look ! 23 refl)) (no-more !)) (λ v₃.
-            gives 𝓤 H A W R.the-row (lasts outcome.ended tt (r₃, tt)) (λ r. rowedOf r ≡ outcomeOf r₃) ! tt v₃ (λ r f₃ at₃.
+            gives 𝓤 H A W R.the-row (lasts outcome.ended tt (r₃, tt)) (λ r. rowedOf r ≡ resultOf r₃) ! tt v₃ (λ r f₃ at₃.
             land ! (from ! (stop !)) (init ! 35 refl (EL.lawful R.the-type R′.the-laws 𝓤 H A W tt .typed r _ at₃ .0)) $
             -- [the result; image's token; row; row's token; image; true; true; _14; …; _0; …]
             returns ! (look ! 35 refl) $ forget ! 7 refl $ forget ! 9 refl $ forget ! 11 refl $ forget ! 13 refl $ forget ! 15 refl $

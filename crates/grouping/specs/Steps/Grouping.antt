@@ -213,7 +213,8 @@ settled s = record {
 abbrev pub resumed : State → State
 resumed s = cond (eqb (s .phase) 0) (opened (some (s .size))) (settled s)
 
-abbrev pub outcomeOf : State → Result ℕ
-outcomeOf s =
+-- what the row gives
+abbrev pub resultOf : State → Result ℕ
+resultOf s =
     cond (eqb (s .number) 0) (accepted (s .total))
     (cond (eqb (s .number) 1) (refused 1 0) (cond (eqb (s .number) 10) (refused 10 0) (refused 3 (s .table))))

@@ -12,9 +12,9 @@ returns c =
 
 returns-2 : tie.Need-returns-2
 returns-2 c =
-    let c3 = c .before .before .before in
-    let c4 = c3 .before in
-    rw (size-some (sizeOf (c4 .args .len)) (c3 .size-of .ensures) (c .before .size .given .1))
+    let c4 = c .before .before .before .before in
+    let c5 = c4 .before in
+    rw (c .started .ensures, size-some (sizeOf (c5 .args .len)) (c4 .size-of .ensures) (c .before .before .size .given .1))
 
 pub begin-spec : {M : Type 1} → statement M
-begin-spec = tie.close (tie.spec (λ c κs. search needs) (λ c. search needs) (λ c. search needs) returns returns-2)
+begin-spec = tie.close (tie.spec (λ c κs. search needs) (λ c. search needs) (λ c. search needs) returns (λ c κs. search needs) returns-2)

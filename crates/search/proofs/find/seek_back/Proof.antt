@@ -7,16 +7,11 @@ use Rattle.minifilter.specs.Steps.Slots.{spanOf}
 use Rattle.search.proofs.find.seek_back.Statement.{statement}
 use Rattle.search.proofs.find.seek_back.Tie as tie
 
-end-before-requires : tie.Need-end-before-requires
-end-before-requires c κs = let p = c .before .pre in (p .0, omega (arith, p .1))
-
 seek-in-requires : tie.Need-seek-in-requires
-seek-in-requires c κs =
-    let p = c .before .before .pre in
-    (record { sound = p .0; mini = omega (arith, p .1); low = omega arith }, c .end-before .ensures)
+seek-in-requires c κs = let p = c .before .pre in record { sound = p .0; mini = omega (arith, p .1); low = omega arith }
 
 returns : tie.Need-returns
-returns c = rw (div-add-mod' (c .before .before .before .args .member) (spanOf layout1 true)) at (c .seek-in .ensures)
+returns c = rw (div-add-mod' (c .before .before .args .member) (spanOf layout1 true)) at (c .seek-in .ensures)
 
 pub seek-back-spec : {M : Type 1} → statement M
-seek-back-spec = tie.close (tie.spec end-before-requires seek-in-requires returns)
+seek-back-spec = tie.close (tie.spec seek-in-requires returns)

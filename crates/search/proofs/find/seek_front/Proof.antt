@@ -74,17 +74,14 @@ returns-2 c =
     (omega (arith, start k .pre .1)) (eqb-true _ _ (e .0)) (eqb-true _ _ (e .1))) in
     sym (rw (tag-slot layout1 b (members k) (known k) (a .key) slot (k .first-tagged .ensures) (omega (arith, at .0, length-highs (tags layout1) (members k))) (at .1)))
 
-end-before-requires : tie.Need-end-before-requires
-end-before-requires c κs = let p = start (sought (tagged (c .before .before))) .pre in (p .0, omega (arith, p .1))
-
 seek-in-requires : tie.Need-seek-in-requires
 seek-in-requires c κs =
-    let p = start (sought (tagged (c .before .before .before))) .pre in
-    (record { sound = p .0; mini = omega (arith, p .1); low = omega arith }, c .end-before .ensures)
+    let p = start (sought (tagged (c .before .before))) .pre in
+    record { sound = p .0; mini = omega (arith, p .1); low = omega arith }
 
 returns-3 : tie.Need-returns-3
 returns-3 c =
-    let k = sought (tagged (c .before .before .before .before)) in
+    let k = sought (tagged (c .before .before .before)) in
     rw (div-add-mod' (start k .args .key) (spanOf layout1 false)) at (c .seek-in .ensures)
 
 pub seek-front-spec : {M : Type 1} → statement M
@@ -96,6 +93,5 @@ seek-front-spec =
     (λ c κs. start (sought c) .pre .0 .long)
     is-slot-of-requires
     returns-2
-    end-before-requires
     seek-in-requires
     returns-3)
