@@ -36,8 +36,8 @@ enum {
     BCF_UNSOUND = 3,        /* a bucket that was read is unsound: BCF_TABLE_NUMBER */
     BCF_FULL = 4,           /* insert, merge: both backyard buckets are full */
     BCF_ABSENT = 5,         /* delete: no such member */
-    BCF_PAST_THE_END = 6,   /* page: start is above F */
-    BCF_DOES_NOT_FIT = 7,   /* page: bucket start does not fit into the output */
+    BCF_PAST_THE_END = 6,   /* page: start is above F; occupancy: a page past the last */
+    BCF_DOES_NOT_FIT = 7,   /* page: bucket start does not fit; occupancy: an output too short */
     BCF_EARLY = 8,          /* check, merge: a backyard member before its turn: BCF_TABLE_NUMBER */
     BCF_DESCENDING = 10     /* row: an entry's front bucket is below that of the entry before it */
 };
@@ -102,6 +102,18 @@ uint64_t bcf_page(const uint8_t *image, size_t length, uint64_t start, uint64_t 
 /* Of an accepted page. */
 #define BCF_PAGE_HOW_MANY(answer) ((uint32_t)BCF_VALUE(answer))
 #define BCF_PAGE_NEXT(answer) ((uint32_t)(BCF_VALUE(answer) >> 32))
+
+/* Lines of an occupancy page, bytes of a line with its newline, bytes of a page. */
+#define BCF_OCCUPANCY_LINES 24
+#define BCF_OCCUPANCY_LINE 42
+#define BCF_OCCUPANCY_BYTES 1008
+
+/* Writes a line for each of 24 front buckets from 24 * page on: its number in columns 1 to 6, its
+ * front members in 8 and 9 and its overflow in 11 and 12, all right-aligned, and from 14 to 41 one
+ * # a front member, then dots. Lines past the last front bucket are blank. Pages are numbered from
+ * 0. The rest of the output keeps its content. Value: 0. */
+uint64_t bcf_occupancy(const uint8_t *image, size_t length, uint64_t page, uint8_t *out,
+                       size_t out_length);
 
 /* Checks both sources, then writes the members of both into the target, which may hold any bytes
  * before. All three have one length. */

@@ -1,7 +1,7 @@
 /*
  * A day of readings from C: 96 quarter hours of 20 houses are filed, asked for, taken out and
- * merged with another day, and a house's day is asked for in one row. Prints the same as the
- * example in Rust.
+ * merged with another day, a house's day is asked for in one row, and lines of an occupancy page
+ * are printed. Prints the same as the example in Rust.
  */
 #include "breadcrumb.h"
 
@@ -87,6 +87,14 @@ static void ask_day(const uint8_t *image, uint64_t house)
     printf("reads in the row: %" PRIu64 ", one by one: %" PRIu64 "\n", total, alone);
 }
 
+/* The first lines of an occupancy page. */
+static void print_lines(const uint8_t *image, uint64_t page, size_t lines)
+{
+    uint8_t out[BCF_OCCUPANCY_BYTES];
+    value(bcf_occupancy(image, BCF_LENGTH(B), page, out, sizeof out));
+    fwrite(out, BCF_OCCUPANCY_LINE, lines, stdout);
+}
+
 int main(void)
 {
     file_day(today, 0);
@@ -113,6 +121,7 @@ int main(void)
     value(bcf_merge(today, sizeof today, tomorrow, sizeof tomorrow, both, sizeof both));
     list("both days", both);
     ask_day(both, 7);
+    print_lines(both, 3, 4);
     both[0] = 0xFF;
     both[1] = 0xFF;
     uint64_t damaged = bcf_check(both, sizeof both);

@@ -1,5 +1,6 @@
 //! A day of readings: 96 quarter hours of 20 houses are filed, asked for, taken out and merged
-//! with another day, and a house's day is asked for in one row. Prints the same as the example in C.
+//! with another day, a house's day is asked for in one row, and lines of an occupancy page are
+//! printed. Prints the same as the example in C.
 
 use breadcrumb::{Changed, Entry, Image, Place, Refusal};
 
@@ -102,6 +103,10 @@ fn main() -> Result<(), Refusal> {
     both.merge(&today, &tomorrow)?;
     list("both days", &both)?;
     ask_day(&both, 7)?;
+    // The first lines of page 3.
+    for line in both.occupancy_pages()?.lines().skip(3 * 24).take(4) {
+        println!("{line}");
+    }
     bytes[..2].fill(0xFF);
     if let Err(Refusal::Unsound(table)) = Image::over(&bytes[..]).check() {
         println!("damaged: 3 in bucket {table}");

@@ -15,6 +15,9 @@ pub mod packed;
 
 use std::fmt;
 
+/// Bytes of an occupancy page.
+pub const OCCUPANCY_BYTES: usize = 1008;
+
 /// Why a call was refused. A refused call has written nothing, but for the target of a merge
 /// that is full, which is then fresh.
 #[derive(Clone, Copy, PartialEq, Eq, Debug)]
@@ -29,9 +32,10 @@ pub enum Refusal {
     Full,
     /// 5: there is no such member to delete.
     Absent,
-    /// 6: a page from beyond the last front bucket.
+    /// 6: a page from beyond the last front bucket, or an occupancy page past the last.
     PastTheEnd,
-    /// 7: the first front bucket of a page does not fit into the output.
+    /// 7: the first front bucket of a page does not fit into the output, or an occupancy page does
+    /// not.
     DoesNotFit,
     /// 8: a backyard bucket has a member before its turn; its table number.
     Early(u64),
@@ -50,7 +54,7 @@ impl fmt::Display for Refusal {
             Refusal::Full => write!(f, "4: full"),
             Refusal::Absent => write!(f, "5: no such member"),
             Refusal::PastTheEnd => write!(f, "6: past the last front bucket"),
-            Refusal::DoesNotFit => write!(f, "7: the bucket does not fit into the output"),
+            Refusal::DoesNotFit => write!(f, "7: the output is too short"),
             Refusal::Early(table) => write!(f, "8: bucket {table} has a member before its turn"),
             Refusal::Descending => write!(f, "10: the front buckets of the row descend"),
             Refusal::Other(number, value) => write!(f, "{number}: {value}"),
@@ -253,6 +257,26 @@ impl<Bytes: AsRef<[u8]>> Image<Bytes> {
                 return Ok(all);
             }
         }
+    }
+
+    /// Writes how full the 24 front buckets from 24 × `page` on are, a line of 42 bytes each: the
+    /// first `OCCUPANCY_BYTES` of the output.
+    pub fn occupancy(&self, page: u64, out: &mut [u8]) -> Result<(), Refusal> {
+        unpack(packed::occupancy(self.bytes(), page, out)).map(|_| ())
+    }
+
+    /// All occupancy pages, one after the other.
+    pub fn occupancy_pages(&self) -> Result<String, Refusal> {
+        let mut text = String::new();
+        let mut out = [0; OCCUPANCY_BYTES];
+        for page in 0.. {
+            match self.occupancy(page, &mut out) {
+                Err(Refusal::PastTheEnd) => break,
+                written => written?,
+            }
+            text.extend(out.map(char::from));
+        }
+        Ok(text)
     }
 }
 

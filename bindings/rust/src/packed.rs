@@ -20,6 +20,13 @@ unsafe extern "C" {
         out: *mut u64,
         out_length: usize,
     ) -> u64;
+    fn bcf_occupancy(
+        image: *const u8,
+        length: usize,
+        page: u64,
+        out: *mut u8,
+        out_length: usize,
+    ) -> u64;
     fn bcf_merge(
         first: *const u8,
         first_length: usize,
@@ -72,6 +79,19 @@ pub fn page(image: &[u8], start: u64, out: &mut [u64]) -> u64 {
             image.as_ptr(),
             image.len(),
             start,
+            out.as_mut_ptr(),
+            out.len(),
+        )
+    }
+}
+
+/// Value 0.
+pub fn occupancy(image: &[u8], page: u64, out: &mut [u8]) -> u64 {
+    unsafe {
+        bcf_occupancy(
+            image.as_ptr(),
+            image.len(),
+            page,
             out.as_mut_ptr(),
             out.len(),
         )

@@ -1,4 +1,4 @@
-use breadcrumb::{Asked, Changed, Counted, Entry, Image, Paged, Place, Refusal};
+use breadcrumb::{Asked, Changed, Counted, Entry, Image, Paged, Place, Refusal, OCCUPANCY_BYTES};
 
 /// A hash with f = 13 where B = 3.
 const THIRTEEN: u64 = 0x8AAAAAAB00000000;
@@ -104,6 +104,55 @@ fn refused_rows() {
     assert_eq!(refused(&image[1..], descending), Refusal::WrongLength);
     let short = Image::over(&image[1..]);
     assert_eq!(short.row(&mut []), Err(Refusal::WrongLength));
+}
+
+#[test]
+fn occupancy_pages() {
+    let mut image = Image::new(3).unwrap();
+    for n in 0..30 {
+        image.insert(THIRTEEN + n).unwrap();
+    }
+    image.insert(0).unwrap();
+    let mut out = [7; OCCUPANCY_BYTES + 2];
+    assert_eq!(image.occupancy(0, &mut out), Ok(()));
+    let (page, rest) = out.split_at(OCCUPANCY_BYTES);
+    assert_eq!(rest, [7, 7]);
+    let text = std::str::from_utf8(page).unwrap();
+    let lines: Vec<&str> = text.lines().collect();
+    assert_eq!(lines.len(), 24);
+    assert_eq!(lines[0], format!("     0  1  0 #{}", ".".repeat(27)));
+    assert_eq!(lines[13], format!("    13 28  2 {}", "#".repeat(28)));
+    assert_eq!(lines[23], format!("    23  0  0 {}", ".".repeat(28)));
+    assert_eq!(image.occupancy_pages().as_deref(), Ok(text));
+    // Two pages; front bucket 31 is the last.
+    let larger = Image::new(4).unwrap().occupancy_pages().unwrap();
+    assert_eq!(larger.len(), 2 * OCCUPANCY_BYTES);
+    assert!(larger.contains("\n    31  0  0 ."));
+    let blank = " ".repeat(41) + "\n";
+    assert!(larger.ends_with(&blank.repeat(16)));
+}
+
+#[test]
+fn refused_occupancy_pages() {
+    let mut image = Image::new(3).unwrap().into_bytes();
+    // A refused page keeps its output.
+    let refused = |image: &[u8], page: u64, length: usize| {
+        let mut out = vec![7; length];
+        let refusal = Image::over(image).occupancy(page, &mut out).unwrap_err();
+        assert_eq!(out, vec![7; length]);
+        refusal
+    };
+    assert_eq!(refused(&image, 0, 1007), Refusal::DoesNotFit);
+    // 24 times the last one wraps to 8.
+    for page in [1, u64::MAX, 768614336404564651] {
+        assert_eq!(refused(&image, page, 1008), Refusal::PastTheEnd);
+    }
+    image[23 * 64..24 * 64].fill(0);
+    assert_eq!(refused(&image, 0, 1007), Refusal::Unsound(23));
+    assert_eq!(refused(&image, 1, 1007), Refusal::PastTheEnd);
+    assert_eq!(refused(&image[1..], 1, 0), Refusal::WrongLength);
+    let pages = Image::over(&image).occupancy_pages();
+    assert_eq!(pages, Err(Refusal::Unsound(23)));
 }
 
 #[test]
