@@ -2,20 +2,25 @@
 //!
 //!     bench FOLDER [quick]
 //!     bench rows [quick]
+//!     bench occupancy [quick]
 //!     bench calls B LOAD FOLDER
 //!
-//! The first writes FOLDER/bench.md and FOLDER/bench.svg; `quick` takes fewer rounds. The second
-//! prints the table of rows alone, which is there with the feature `rows`. The third is for
-//! `compare`: it names its calls, and times the one whose number comes on standard input, again and
-//! again; its buffers are files of FOLDER.
+//! The first writes FOLDER/bench.md and FOLDER/bench.svg; `quick` takes fewer rounds. The next two
+//! print the table of rows or of occupancy pages alone, which are there with the feature `rows`.
+//! The last is for `compare`: it names its calls, and times the one whose number comes on standard
+//! input, again and again; its buffers are files of FOLDER.
 
 mod inputs;
 mod lines;
 mod measure;
+#[cfg(feature = "rows")]
+mod occupancy;
 mod plot;
 #[cfg(feature = "rows")]
 mod rows;
 mod subject;
+#[cfg(feature = "rows")]
+mod turns;
 
 use inputs::Setting;
 use measure::{Effort, Rounds, Times, Who, CALLS, ON_HASHES};
@@ -74,6 +79,11 @@ fn row(cells: &[String]) -> String {
     format!("| {} |\n", cells.join(" | "))
 }
 
+/// The first row of a table, and the line below it.
+fn head(cells: &[String]) -> String {
+    row(cells) + &format!("|{}\n", "---|".repeat(cells.len()))
+}
+
 /// One table: a row a call, a column an implementation, and the ratio of capi to fast.
 fn table(setting: Setting, all: &[Times]) -> String {
     let fast = all.iter().find(|times| times.name == "fast");
@@ -84,13 +94,12 @@ fn table(setting: Setting, all: &[Times]) -> String {
         setting.load,
         setting.members()
     );
-    let mut head = vec!["call".to_string(), "ns a".to_string()];
-    head.extend(all.iter().map(|times| times.name.to_string()));
+    let mut names = vec!["call".to_string(), "ns a".to_string()];
+    names.extend(all.iter().map(|times| times.name.to_string()));
     if capi.is_some() {
-        head.push("capi / fast".to_string());
+        names.push("capi / fast".to_string());
     }
-    text += &row(&head);
-    text += &format!("|{}\n", "---|".repeat(head.len()));
+    text += &head(&names);
     for (call, (name, unit)) in CALLS.iter().enumerate() {
         let mut cells = vec![name.to_string(), unit.to_string()];
         cells.extend(all.iter().map(|times| ns(times.ns[call])));
@@ -127,34 +136,72 @@ trusted. `HashMap` is Rust's `HashMap<u64, u32>` as a counting multiset, with th
 that are not hashed again; its `page` collects and sorts.
 ";
 
-/// The table of rows, in the settings of the other tables.
+/// The settings of the tables: B and load.
+const SETTINGS: [(u64, u64); 4] = [(113, 50), (113, 90), (65536, 50), (65536, 90)];
+
+/// A table of two ways under a title, with the rows of each setting.
 #[cfg(feature = "rows")]
-fn rows_table(quick: bool) -> Option<String> {
-    let mut text = format!("\n## Rows\n\n{ROWS_NOTES}\n");
-    let head = ["B", "load", "hashes", "lone", "row", "row / lone"];
-    text += &row(&head.map(str::to_string));
-    text += &format!("|{}\n", "---|".repeat(head.len()));
-    for b in [113, 65536] {
-        for load in [50, 90] {
-            eprintln!("rows, B = {b}, load {load} %");
-            let times = rows::run(Setting { b, load }, effort(b, quick));
-            for (times, hashes) in times.iter().zip(["members", "others"]) {
-                text += &row(&[
-                    b.to_string(),
-                    format!("{load} %"),
-                    hashes.to_string(),
-                    ns(Some(times.lone)),
-                    ns(Some(times.row)),
-                    ratio(Some(times.row), Some(times.lone)),
-                ]);
-            }
+fn ways_table(
+    title: &str,
+    notes: &str,
+    columns: &[&str],
+    cells: impl Fn(Setting) -> Vec<Vec<String>>,
+) -> String {
+    let columns: Vec<String> = ["B", "load"]
+        .iter()
+        .chain(columns)
+        .map(|name| name.to_string())
+        .collect();
+    let mut text = format!("\n## {title}\n\n{notes}\n{}", head(&columns));
+    for (b, load) in SETTINGS {
+        eprintln!("{title}, B = {b}, load {load} %");
+        for cells in cells(Setting { b, load }) {
+            text += &row(&[vec![b.to_string(), format!("{load} %")], cells].concat());
         }
     }
-    Some(text)
+    text
+}
+
+/// Two times and their ratio, the later over the earlier.
+#[cfg(feature = "rows")]
+fn two_ways(before: f64, after: f64) -> Vec<String> {
+    let (before, after) = (Some(before), Some(after));
+    vec![ns(before), ns(after), ratio(after, before)]
+}
+
+#[cfg(feature = "rows")]
+fn rows_table(quick: bool) -> Option<String> {
+    let columns = ["hashes", "lone", "row", "row / lone"];
+    Some(ways_table("Rows", ROWS_NOTES, &columns, |setting| {
+        let times = rows::run(setting, effort(setting.b, quick));
+        let cells = |(times, hashes): (&rows::Times, &str)| {
+            [vec![hashes.to_string()], two_ways(times.lone, times.row)].concat()
+        };
+        times.iter().zip(["members", "others"]).map(cells).collect()
+    }))
+}
+
+#[cfg(feature = "rows")]
+fn occupancy_table(quick: bool) -> Option<String> {
+    let columns = ["page", "occupancy", "occupancy / page"];
+    Some(ways_table(
+        "Occupancy pages",
+        OCCUPANCY_NOTES,
+        &columns,
+        |setting| {
+            let times = occupancy::run(setting, effort(setting.b, quick));
+            vec![two_ways(times.listed, times.line)]
+        },
+    ))
 }
 
 #[cfg(not(feature = "rows"))]
 fn rows_table(_: bool) -> Option<String> {
+    None
+}
+
+#[cfg(not(feature = "rows"))]
+fn occupancy_table(_: bool) -> Option<String> {
     None
 }
 
@@ -164,6 +211,13 @@ ns an ask. A row has 96 asks, sorted by hash: 12 random front buckets with 8 has
 members or all of others. `lone` asks for them one by one in that order, `row` in one call of \
 `bcf_row`; there filling the entries and looking at their places is in the time. In a round both \
 ask for the same hashes, each on its own image, warmed by as many asks of its kind, and take turns at starting.
+";
+
+#[cfg(feature = "rows")]
+const OCCUPANCY_NOTES: &str = "\
+ns a front bucket. `occupancy` writes all occupancy pages of the image, a line a front bucket; \
+`page` lists its members, in pages of 1,024 entries. Each has its own image, warmed by a check, and \
+they take turns at starting.
 ";
 
 /// The panels of one axis: one for each of the calls that are plotted. A point is its place on
@@ -218,49 +272,33 @@ fn calls(setting: Setting, folder: &str) {
     }
 }
 
-fn main() {
-    let arguments: Vec<String> = std::env::args().skip(1).collect();
-    if let [word, b, load, folder] = &arguments[..] {
-        if let ("calls", Ok(b), Ok(load)) = (word.as_str(), b.parse(), load.parse()) {
-            return calls(Setting { b, load }, folder);
-        }
+/// Every table.
+fn tables(results: &mut Results) -> String {
+    let quick = results.quick;
+    let mut text = format!("# Times of the calls\n\n{NOTES}");
+    for (b, load) in SETTINGS {
+        let times = results.of(b, load, CALLS.len());
+        text += &table(Setting { b, load }, times);
     }
-    let Some(folder) = arguments.first() else {
-        eprintln!("usage: bench FOLDER [quick] | rows [quick] | calls B LOAD FOLDER");
-        std::process::exit(2);
-    };
-    let quick = arguments.get(1).is_some_and(|word| word == "quick");
-    if folder == "rows" {
-        let table = rows_table(quick).expect("a build with the feature `rows`");
-        return print!("{table}");
-    }
-    let mut results = Results {
-        quick,
-        ..Results::default()
-    };
+    text += &rows_table(quick).unwrap_or_default();
+    text + &occupancy_table(quick).unwrap_or_default()
+}
 
-    let mut report = format!("# Times of the calls\n\n{NOTES}");
-    for b in [113, 65536] {
-        for load in [50, 90] {
-            let times = results.of(b, load, CALLS.len());
-            report += &table(Setting { b, load }, times);
-        }
-    }
-    report += &rows_table(quick).unwrap_or_default();
-
+/// The plot over load, and beside it over B.
+fn plot(results: &mut Results) -> String {
     let loads = [10, 20, 30, 40, 50, 60, 70, 80, 90, 95];
     let over_load: Vec<_> = loads.map(|load| (load, 113, load)).to_vec();
     let sizes = [8, 32, 113, 512, 2048, 8192, 65536];
     let over_size: Vec<_> = sizes.map(|b| (b, b, 90)).to_vec();
     let left = panels(
-        &mut results,
+        results,
         &over_load,
         "load in percent, B = 113",
         false,
         &[10.0, 30.0, 50.0, 70.0, 90.0],
     );
     let right = panels(
-        &mut results,
+        results,
         &over_size,
         "B, load 90 %",
         true,
@@ -271,8 +309,37 @@ fn main() {
         .zip(right)
         .flat_map(|(l, r)| [l, r])
         .collect();
-    let svg = plot::svg("ns a call over load and over B", &both, 2);
+    plot::svg("ns a call over load and over B", &both, 2)
+}
 
+fn main() {
+    let arguments: Vec<String> = std::env::args().skip(1).collect();
+    if let [word, b, load, folder] = &arguments[..] {
+        if let ("calls", Ok(b), Ok(load)) = (word.as_str(), b.parse(), load.parse()) {
+            return calls(Setting { b, load }, folder);
+        }
+    }
+    let Some(folder) = arguments.first() else {
+        eprintln!("usage: bench FOLDER [quick] | rows [quick] | occupancy [quick]");
+        eprintln!("       bench calls B LOAD FOLDER");
+        std::process::exit(2);
+    };
+    let quick = arguments.get(1).is_some_and(|word| word == "quick");
+    let alone = match folder.as_str() {
+        "rows" => Some(rows_table(quick)),
+        "occupancy" => Some(occupancy_table(quick)),
+        _ => None,
+    };
+    if let Some(table) = alone {
+        return print!("{}", table.expect("a build with the feature `rows`"));
+    }
+    let mut results = Results {
+        quick,
+        ..Results::default()
+    };
+
+    let report = tables(&mut results);
+    let svg = plot(&mut results);
     std::fs::create_dir_all(folder).expect("the folder");
     std::fs::write(format!("{folder}/bench.md"), &report).expect("bench.md");
     std::fs::write(format!("{folder}/bench.svg"), svg).expect("bench.svg");

@@ -2,7 +2,8 @@
 
 use crate::inputs::{filled, Setting};
 use crate::lines::Lines;
-use crate::measure::{median, timed, wall_time, Effort};
+use crate::measure::{timed, wall_time, Effort};
+use crate::turns::in_turns;
 use breadcrumb::{packed, Entry};
 use model::random::Random;
 
@@ -111,8 +112,8 @@ fn in_rows(image: &[u8], rows: &[[u64; ROW]]) -> usize {
     found
 }
 
-/// Times of hashes that are there, and of others. Both ways have an image of their own, are warmed
-/// by as many asks of their kind and take turns at starting; a first round is not counted.
+/// Times of hashes that are there, and of others. Both ways have an image of their own and are
+/// warmed by as many asks of their kind.
 pub fn run(setting: Setting, effort: Effort) -> [Times; 2] {
     let (image, mut source) = Source::new(setting);
     let images = [Lines::of(&image, None), Lines::of(&image, None)];
@@ -120,25 +121,18 @@ pub fn run(setting: Setting, effort: Effort) -> [Times; 2] {
     let asks = rows_a_batch * ROW;
     let ways = [lone, in_rows];
     [true, false].map(|there| {
-        let mut samples = [Vec::new(), Vec::new()];
-        for round in 0..=effort.rounds {
-            let rows: Vec<_> = (0..rows_a_batch).map(|_| source.row(there)).collect();
-            let warm: Vec<_> = (0..rows_a_batch).map(|_| source.row(false)).collect();
-            let mut founds = [0; 2];
-            for turn in 0..2 {
-                let way = (round + turn) % 2;
-                let image: &[u8] = &images[way];
-                std::hint::black_box(ways[way](image, &warm));
-                let (found, ns) = timed(wall_time, || ways[way](image, &rows));
-                founds[way] = found;
-                if round > 0 {
-                    samples[way].push(ns / asks as f64);
-                }
-            }
-            assert_eq!(founds[0], founds[1], "as many are there");
+        let mut batch =
+            |there| -> Vec<_> { (0..rows_a_batch).map(|_| source.row(there)).collect() };
+        let inputs = || (batch(there), batch(false));
+        let [lone, row] = in_turns(effort.rounds, inputs, |way, (rows, warm)| {
+            let image: &[u8] = &images[way];
+            std::hint::black_box(ways[way](image, warm));
+            timed(wall_time, || ways[way](image, rows))
+        });
+        Times {
+            lone: lone / asks as f64,
+            row: row / asks as f64,
         }
-        let [lone, row] = samples.map(|samples| median(samples).expect("a round"));
-        Times { lone, row }
     })
 }
 

@@ -1,11 +1,11 @@
 //! The calls of other implementations, compared with those of the model.
 
+use model::beside::{difference, Beside, Call};
 use model::catalogue::{Catalogue, Entry, Model};
 use model::fingerprint::Fingerprint;
 use model::histories::{self, Kind, KINDS};
 use model::prepare::Player;
 use model::random::Random;
-use model::rows::Rows;
 use model::shape::{Shape, BUCKET};
 use model::stored::{Images, Line};
 
@@ -36,6 +36,9 @@ impl Catalogue for Fast {
     }
     fn page(&self, image: &[u8], start: u64, out: &mut [u64]) -> u64 {
         fast::page(image, start, out)
+    }
+    fn occupancy(&self, _: &[u8], _: u64, _: &mut [u8]) -> Option<u64> {
+        None
     }
     fn merge(&self, first: &[u8], second: &[u8], target: &mut [u8]) -> u64 {
         fast::merge(first, second, target)
@@ -77,6 +80,9 @@ impl Catalogue for Capi {
     fn page(&self, image: &[u8], start: u64, out: &mut [u64]) -> u64 {
         breadcrumb::packed::page(image, start, out)
     }
+    fn occupancy(&self, image: &[u8], page: u64, out: &mut [u8]) -> Option<u64> {
+        Some(breadcrumb::packed::occupancy(image, page, out))
+    }
     fn merge(&self, first: &[u8], second: &[u8], target: &mut [u8]) -> u64 {
         breadcrumb::packed::merge(first, second, target)
     }
@@ -104,18 +110,20 @@ fn lent_back(entry: breadcrumb::Entry) -> Entry {
     }
 }
 
-/// Once in so many calls a row is asked beside the history.
-const CALLS_A_ROW: u64 = 4;
+/// Once in so many calls a row is asked beside the history, and as often an occupancy page.
+const CALLS_A_CALL_BESIDE: u64 = 4;
 
 /// An implementation that performs every line that the model performs.
 pub struct Follower<'a> {
     catalogue: &'a dyn Catalogue,
     images: Images,
-    rows: Rows,
+    beside: Beside,
     /// Calls compared: their answers, and every byte of images and output.
     pub compared: u64,
     /// Rows compared beside them: their answers, and every byte of entries and image.
     pub rows_compared: u64,
+    /// Occupancy pages compared beside them: their answers, and every byte of output and image.
+    pub occupancy_compared: u64,
 }
 
 impl<'a> Follower<'a> {
@@ -123,16 +131,17 @@ impl<'a> Follower<'a> {
         Follower {
             catalogue,
             images: Images::default(),
-            rows: Rows::new(0),
+            beside: Beside::new(0),
             compared: 0,
             rows_compared: 0,
+            occupancy_compared: 0,
         }
     }
 
     /// Performs a line and compares; `expected` are the model's images after it.
     fn follow(&mut self, line: Line, answer: u64, expected: &Images) {
         let got = self.images.perform(self.catalogue, line);
-        self.rows.tell(line);
+        self.beside.tell(line);
         if !line.is_call() {
             return;
         }
@@ -143,58 +152,59 @@ impl<'a> Follower<'a> {
             self.same_image(x, expected, &text);
         }
         self.compared += 1;
-        if self.rows.is_due(CALLS_A_ROW) {
-            let x = line.images()[0];
-            self.rows_on(x, expected, &format!("a row after {text}"));
+        for make in [Beside::row, Beside::occupancy] {
+            if self.beside.is_due(CALLS_A_CALL_BESIDE) {
+                let x = line.images()[0];
+                let call = make(&mut self.beside, &expected.image[x]);
+                self.call_beside(x, &call, expected, &format!("{call} after {text}"));
+            }
         }
     }
 
     fn same_image(&self, x: usize, expected: &Images, text: &str) {
         let (ours, theirs) = (&self.images.image[x], &expected.image[x]);
         if ours != theirs {
-            let at = ours.iter().zip(theirs).position(|(a, b)| a != b);
+            let at = difference(ours, theirs);
             panic!("image {x} differs from byte {at:?} on: {text}");
         }
     }
 
-    /// A row on an image as it is, and on the same with a bucket of zeros, which is unsound.
-    fn rows_on(&mut self, x: usize, expected: &Images, text: &str) {
-        let row = self.rows.row(&expected.image[x]);
-        self.row(x, &row, text);
+    /// A call on an image as it is, and on the same with a bucket of zeros, which is unsound.
+    fn call_beside(&mut self, x: usize, call: &Call, expected: &Images, text: &str) {
+        self.compare(x, call, text);
         let shape = Shape::of_length(expected.image[x].len());
-        if let Some(table) = shape.and_then(|shape| self.rows.table(&row, shape)) {
+        if let Some(table) = shape.and_then(|shape| self.beside.table(call, shape)) {
             let at = table as usize * BUCKET;
             let bucket = at..at + BUCKET;
             self.images.image[x][bucket.clone()].fill(0);
-            self.row(x, &row, text);
+            self.compare(x, call, text);
             assert_eq!(self.images.image[x][bucket.clone()], [0; BUCKET], "{text}");
             self.images.image[x][bucket.clone()].copy_from_slice(&expected.image[x][bucket]);
         }
         self.same_image(x, expected, text);
     }
 
-    /// One row, by the implementation and by the model.
-    fn row(&mut self, x: usize, row: &[Entry], text: &str) {
+    /// One call, by the implementation and by the model.
+    fn compare(&mut self, x: usize, call: &Call, text: &str) {
         let image = &self.images.image[x];
-        let (mut ours, mut theirs) = (row.to_vec(), row.to_vec());
-        let Some(got) = self.catalogue.row(image, &mut ours) else {
+        let (mut ours, mut theirs) = (call.clone(), call.clone());
+        let Some(got) = ours.perform(self.catalogue, image) else {
             return;
         };
-        let answer = Model.row(image, &mut theirs).expect("the model has rows");
-        let n = row.len();
-        assert_eq!(
-            got, answer,
-            "answer {got:016X} for {answer:016X}, {n} entries: {text}"
-        );
-        for (at, (ours, theirs)) in ours.iter().zip(&theirs).enumerate() {
-            assert_eq!(ours, theirs, "entry {at} of {n}: {text}");
+        let answer = theirs.perform(&Model, image).expect("the model has it");
+        assert_eq!(got, answer, "answer {got:016X} for {answer:016X}: {text}");
+        if let Some(at) = ours.difference(&theirs) {
+            panic!("entry or byte {at} differs: {text}");
         }
-        self.rows_compared += 1;
+        match call {
+            Call::Row(_) => self.rows_compared += 1,
+            Call::Occupancy { .. } => self.occupancy_compared += 1,
+        }
     }
 
     /// A random history.
     pub fn history(&mut self, kind: Kind, b: u64, how_many: usize, seed: u64) {
-        self.rows = Rows::new(seed);
+        self.beside = Beside::new(seed);
         let mut observer = |line: Line, answer: u64, images: &Images| {
             self.follow(line, answer, images);
         };

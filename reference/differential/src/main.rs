@@ -4,8 +4,9 @@
 //!     differential vectors FILE [fast | capi]
 //!
 //! The first plays random histories until so many calls are compared, and once the shortest and
-//! the longest image; rows of asks are compared beside them. The second replays the calls of
-//! another model. `capi` is there with the feature of that name, and then is what is compared.
+//! the longest image; rows of asks and occupancy pages are compared beside them. The second replays
+//! the calls of another model. `capi` is there with the feature of that name, and then is what is
+//! compared.
 
 use differential::{Fast, Follower};
 use model::catalogue::Catalogue;
@@ -53,9 +54,13 @@ fn histories(catalogue: &dyn Catalogue, name: &str, calls: u64, seed: u64) {
     let all = follower.compared;
     println!("{name}: {all} calls compared with the model, none differs");
     println!("({ends} of them on the shortest and the longest image)");
-    let rows = follower.rows_compared;
-    if rows > 0 {
-        println!("{name}: {rows} rows of asks compared beside them, none differs");
+    for (n, calls) in [
+        (follower.rows_compared, "rows of asks"),
+        (follower.occupancy_compared, "occupancy pages"),
+    ] {
+        if n > 0 {
+            println!("{name}: {n} {calls} compared beside them, none differs");
+        }
     }
 }
 

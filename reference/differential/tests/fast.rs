@@ -11,11 +11,14 @@ fn histories() {
 
 #[test]
 fn stored_calls() {
-    // A row changes nothing, and `fast` has none.
-    let is_row = |text: &str| matches!(Line::parse(text), Some(Line::Row { .. }));
+    // A row and an occupancy page change nothing, and `fast` has neither.
+    let is_left_out = |text: &str| {
+        let line = Line::parse(text.trim_end());
+        matches!(line, Some(Line::Row { .. } | Line::Occupancy { .. }))
+    };
     let input: String = cases::input()
         .split_inclusive('\n')
-        .filter(|text| !is_row(text.trim_end()))
+        .filter(|text| !is_left_out(text))
         .collect();
     let mut images = Images::default();
     let line = |text| images.answer(&Fast, Line::parse(text).unwrap());

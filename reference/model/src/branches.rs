@@ -1,14 +1,16 @@
 //! The branches of the machine that a call takes, by name.
 //!
-//! The stored calls must take every one of `ALL`, the random rows every one of `ROWS`, the stored
-//! rows every one but those of `BEYOND_THREE`.
+//! The stored calls must take every one of `ALL`, the random rows and occupancy pages every one of
+//! `ROWS` and of `OCCUPANCY`; the stored ones too, but for those of `BEYOND_THREE`.
 
 use crate::bucket::{Bytes, Member};
 use crate::calls::{self, bag, members, read_backyard, read_front, Asked, Bag, Place};
+use crate::calls::{LINES, OCCUPANCY_BYTES};
 use crate::fingerprint::Fingerprint;
 use crate::shape::{Shape, BUCKET};
 use crate::stored::{row_hashes, Images, Line};
 use std::collections::HashSet;
+use std::ops::Range;
 
 pub const ALL: &[&str] = &[
     "fresh: 1",
@@ -201,6 +203,52 @@ pub const BEYOND_THREE: &[&str] = &[
     "row: accepted, empty",
     "row: accepted, hundreds",
     "row: none, front, first and second in one row",
+];
+
+pub const OCCUPANCY: &[&str] = &[
+    "occupancy: 1",
+    "occupancy: 1, short output",
+    "occupancy: 6",
+    "occupancy: 6, the first past the last",
+    "occupancy: 6, 24 p above 64 bits",
+    "occupancy: 6, 24 p wraps to a front bucket",
+    "occupancy: 6, short output",
+    "occupancy: 6, unsound image",
+    "occupancy: 3 in front",
+    "occupancy: 3 in b0",
+    "occupancy: 3 in b1",
+    "occupancy: 3, the first line",
+    "occupancy: 3, after other lines",
+    "occupancy: 3 behind, a later front bucket unsound",
+    "occupancy: 3, short output",
+    "occupancy: 7, no output",
+    "occupancy: 7, some output",
+    "occupancy: 7, a byte short",
+    "occupancy: accepted, 1,008 bytes",
+    "occupancy: accepted, a longer output",
+    "occupancy: accepted, another page unsound",
+    "occupancy: the first page of several",
+    "occupancy: a later page",
+    "occupancy: the last page, 24 lines",
+    "occupancy: the last page, blank lines",
+    "occupancy: number of one digit",
+    "occupancy: number of two digits",
+    "occupancy: number of three digits",
+    "occupancy: 0 in front",
+    "occupancy: 1 to 9 in front",
+    "occupancy: 10 to 26 in front",
+    "occupancy: 27 in front",
+    "occupancy: room in front, members behind",
+    "occupancy: room in front, unsound behind",
+    "occupancy: 28 in front, none behind",
+    "occupancy: 28 in front, first alone",
+    "occupancy: 28 in front, second alone",
+    "occupancy: 28 in front, first and second",
+    "occupancy: 28 in front, b0 = b1",
+    "occupancy: 28 in front, others behind",
+    "occupancy: 1 to 9 behind",
+    "occupancy: 10 to 43 behind",
+    "occupancy: 44 behind",
 ];
 
 /// The names of one call, gathered.
@@ -463,6 +511,16 @@ fn ask(names: &mut Names, image: &[u8], hash: u64) {
     names.add("ask: none, 3 reads");
 }
 
+/// Which bucket of f has this table number.
+fn unsound_of(shape: Shape, f: u64, table: u64) -> &'static str {
+    let first = shape.table_number(shape.first_home(f).bucket);
+    match table {
+        table if table == f => "front",
+        table if table == first => "b0",
+        _ => "b1",
+    }
+}
+
 fn row(names: &mut Names, image: &[u8], hashes: &[u64]) {
     let Some(shape) = Shape::of_length(image.len()) else {
         names.add("row: 1");
@@ -483,12 +541,8 @@ fn row(names: &mut Names, image: &[u8], hashes: &[u64]) {
     if let Some(at) = refused {
         let f = fronts[at];
         let table = asks[at].unwrap_err().table.expect("a table number");
-        let first = shape.table_number(shape.first_home(f).bucket);
-        names.add(match table {
-            table if table == f => "row: 3 in front",
-            table if table == first => "row: 3 in b0",
-            _ => "row: 3 in b1",
-        });
+        let which = unsound_of(shape, f, table);
+        names.add(&format!("row: 3 in {which}"));
         names.add_if(at == 0, "row: 3, the first ask");
         names.add(match fronts[0] == f {
             true => "row: 3, in the first group",
@@ -664,6 +718,131 @@ fn page(names: &mut Names, image: &[u8], start: u64, length: usize) {
     }
     names.add("page: up to F");
     names.add_if(written < length, "page: room left over");
+}
+
+fn occupancy(names: &mut Names, image: &[u8], page: u64, length: usize) {
+    let short = length < OCCUPANCY_BYTES;
+    let Some(shape) = Shape::of_length(image.len()) else {
+        names.add("occupancy: 1");
+        return names.add_if(short, "occupancy: 1, short output");
+    };
+    let fronts = shape.fronts();
+    let pages = fronts.div_ceil(LINES);
+    if page >= pages {
+        names.add_if(short, "occupancy: 6, short output");
+        return past_the_last(names, image, shape, page);
+    }
+    let start = LINES * page;
+    let end = fronts.min(start + LINES);
+    let refusal = (start..end).find_map(|f| members(image, shape, f).err().map(|why| (f, why)));
+    if let Some((f, why)) = refusal {
+        let table = why.table.expect("a table number");
+        let which = unsound_of(shape, f, table);
+        names.add(&format!("occupancy: 3 in {which}"));
+        names.add(match f == start {
+            true => "occupancy: 3, the first line",
+            false => "occupancy: 3, after other lines",
+        });
+        names.add_if(
+            table >= fronts && (f + 1..end).any(|f| read_front(image, f).is_err()),
+            "occupancy: 3 behind, a later front bucket unsound",
+        );
+        return names.add_if(short, "occupancy: 3, short output");
+    }
+    names.add(match length {
+        0 => "occupancy: 7, no output",
+        1007 => "occupancy: 7, a byte short",
+        1008 => "occupancy: accepted, 1,008 bytes",
+        _ if short => "occupancy: 7, some output",
+        _ => "occupancy: accepted, a longer output",
+    });
+    if !short {
+        occupancy_lines(names, image, shape, start..end);
+    }
+}
+
+/// An occupancy page past the last.
+fn past_the_last(names: &mut Names, image: &[u8], shape: Shape, page: u64) {
+    let fronts = shape.fronts();
+    names.add("occupancy: 6");
+    names.add_if(
+        page == fronts.div_ceil(LINES),
+        "occupancy: 6, the first past the last",
+    );
+    if page.checked_mul(LINES).is_none() {
+        names.add("occupancy: 6, 24 p above 64 bits");
+        names.add_if(
+            page.wrapping_mul(LINES) < fronts,
+            "occupancy: 6, 24 p wraps to a front bucket",
+        );
+    }
+    let unsound = (0..fronts).any(|f| read_front(image, f).is_err());
+    names.add_if(unsound, "occupancy: 6, unsound image");
+}
+
+/// An accepted occupancy page of these front buckets.
+fn occupancy_lines(names: &mut Names, image: &[u8], shape: Shape, page: Range<u64>) {
+    let fronts = shape.fronts();
+    let mut others = (0..fronts).filter(|f| !page.contains(f));
+    names.add_if(
+        others.any(|f| read_front(image, f).is_err()),
+        "occupancy: accepted, another page unsound",
+    );
+    names.add_if(
+        page.start == 0 && page.end < fronts,
+        "occupancy: the first page of several",
+    );
+    names.add_if(page.start > 0, "occupancy: a later page");
+    if page.end == fronts {
+        names.add(match page.end - page.start {
+            LINES => "occupancy: the last page, 24 lines",
+            _ => "occupancy: the last page, blank lines",
+        });
+    }
+    for f in page {
+        names.add(match f {
+            0..10 => "occupancy: number of one digit",
+            10..100 => "occupancy: number of two digits",
+            _ => "occupancy: number of three digits",
+        });
+        let front = read_front(image, f).expect("a sound bucket").len();
+        occupancy_line(names, front, &behind(image, shape, f));
+    }
+}
+
+/// One line, by the members in front and what is behind them.
+fn occupancy_line(names: &mut Names, front: usize, behind: &Behind) {
+    if front < 28 {
+        names.add(match front {
+            0 => "occupancy: 0 in front",
+            1..=9 => "occupancy: 1 to 9 in front",
+            10..=26 => "occupancy: 10 to 26 in front",
+            _ => "occupancy: 27 in front",
+        });
+        names.add_if(behind.some(), "occupancy: room in front, members behind");
+        return names.add_if(behind.unsound(), "occupancy: room in front, unsound behind");
+    }
+    let (first, second) = (behind.first.len(), behind.second.len());
+    names.add(match (first, second) {
+        (0, 0) => "occupancy: 28 in front, none behind",
+        (_, 0) => "occupancy: 28 in front, first alone",
+        (0, _) => "occupancy: 28 in front, second alone",
+        _ => "occupancy: 28 in front, first and second",
+    });
+    match first + second {
+        0 => {}
+        1..=9 => names.add("occupancy: 1 to 9 behind"),
+        44 => names.add("occupancy: 44 behind"),
+        _ => names.add("occupancy: 10 to 43 behind"),
+    }
+    names.add_if(
+        behind.same && behind.some(),
+        "occupancy: 28 in front, b0 = b1",
+    );
+    names.add_if(
+        behind.n0 > first && behind.n1 > second && !behind.same,
+        "occupancy: 28 in front, others behind",
+    );
 }
 
 /// The first unsound bucket by table number, or the backyard buckets with members before
@@ -887,6 +1066,13 @@ pub fn of_row(image: &[u8], hashes: &[u64]) -> Vec<String> {
     names.names
 }
 
+/// The branches that an occupancy page takes on an image.
+pub fn of_occupancy(image: &[u8], page: u64, length: usize) -> Vec<String> {
+    let mut names = Names::default();
+    occupancy(&mut names, image, page, length);
+    names.names
+}
+
 /// The branches that a line takes on these images. `accepted` tells whether it is accepted.
 pub fn of(images: &Images, line: Line, accepted: bool) -> Vec<String> {
     let mut names = Names::default();
@@ -907,6 +1093,7 @@ pub fn of(images: &Images, line: Line, accepted: bool) -> Vec<String> {
             merge(&mut names, sources, image(z), x == y, accepted)
         }
         Line::Row { x, hash, step } => row(&mut names, image(x), &row_hashes(hash, step)),
+        Line::Occupancy { x, page, length } => occupancy(&mut names, image(x), page, length),
         Line::New { .. } | Line::Poke { .. } | Line::Copy { .. } => {}
     }
     names.names

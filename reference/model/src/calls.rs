@@ -1,4 +1,5 @@
-//! The eight calls of document 01 on byte slices, and the row of asks of document 02.
+//! The eight calls of document 01 on byte slices, and of document 02 the row of asks and the
+//! occupancy page.
 
 use crate::bucket::{self, Bytes, Member};
 use crate::fingerprint::Fingerprint;
@@ -45,6 +46,12 @@ pub struct Paged {
     pub how_many: u64,
     pub next: u64,
 }
+
+/// Lines of an occupancy page, and the columns of a line before its newline.
+pub const LINES: u64 = 24;
+pub const COLUMNS: usize = 41;
+/// Bytes of an occupancy page.
+pub const OCCUPANCY_BYTES: usize = LINES as usize * (COLUMNS + 1);
 
 /// A bag of fingerprints of one front bucket, ascending.
 pub type Bag = Vec<Fingerprint>;
@@ -371,6 +378,37 @@ pub fn page(image: &[u8], start: u64, out: &mut [u64]) -> Result<Paged, Refusal>
     })
 }
 
+/// How full front bucket f is: its number, its members in front, those behind, and a bar.
+fn occupancy_line(image: &[u8], shape: Shape, f: u64) -> Result<String, Refusal> {
+    let front = read_front(image, f)?.len();
+    let behind = members(image, shape, f)?.len() - front;
+    let bar = "#".repeat(front) + &".".repeat(FRONT_SLOTS - front);
+    Ok(format!("{f:6} {front:2} {behind:2} {bar}"))
+}
+
+/// Writes the lines of 24 front buckets, blank ones past the last.
+pub fn occupancy(image: &[u8], page: u64, out: &mut [u8]) -> Result<(), Refusal> {
+    let shape = sized(image)?;
+    // 24 × page >= F, without a product that may be too large.
+    if page >= shape.fronts().div_ceil(LINES) {
+        return refused(6);
+    }
+    let start = LINES * page;
+    let mut text = String::new();
+    for f in start..start + LINES {
+        text += &match f < shape.fronts() {
+            true => occupancy_line(image, shape, f)?,
+            false => " ".repeat(COLUMNS),
+        };
+        text += "\n";
+    }
+    if out.len() < text.len() {
+        return refused(7);
+    }
+    out[..text.len()].copy_from_slice(text.as_bytes());
+    Ok(())
+}
+
 pub fn check(image: &[u8]) -> Result<(), Refusal> {
     let shape = sized(image)?;
     let mut fronts = Vec::new();
@@ -480,5 +518,72 @@ mod tests {
         }
         assert_eq!(refusal(&image[1..], &descending), (1, None));
         assert_eq!(refusal(&image[1..], &[]), (1, None));
+    }
+    /// The lines of an accepted page.
+    fn lines(image: &[u8], page: u64) -> Vec<String> {
+        let mut out = [7; OCCUPANCY_BYTES + 3];
+        occupancy(image, page, &mut out).unwrap();
+        let (text, rest) = out.split_at(OCCUPANCY_BYTES);
+        assert_eq!(rest, [7; 3]);
+        let text = std::str::from_utf8(text).unwrap();
+        assert!(text.ends_with('\n'));
+        text.lines().map(str::to_string).collect()
+    }
+
+    #[test]
+    fn occupancy_pages() {
+        let full = "#".repeat(28);
+        let mut image = image();
+        insert(&mut image, hash(7, 7)).unwrap();
+        let page = lines(&image, 0);
+        assert_eq!(page.len(), 24);
+        assert_eq!(page[0], format!("     0  0  0 {}", ".".repeat(28)));
+        assert_eq!(page[7], format!("     7  1  0 #{}", ".".repeat(27)));
+        assert_eq!(page[13], format!("    13 28 12 {full}"));
+        assert_eq!(page[18], format!("    18 28 12 {full}"));
+        for tag in 30..40 {
+            delete(&mut image, hash(13, tag)).unwrap();
+        }
+        assert_eq!(lines(&image, 0)[13], format!("    13 28  2 {full}"));
+    }
+
+    #[test]
+    fn last_occupancy_pages() {
+        let blank = " ".repeat(41);
+        for (b, page, used) in [(1, 0, 8), (3, 0, 24), (4, 1, 8), (65536, 21845, 8)] {
+            let image = fresh_image(b);
+            let lines = lines(&image, page);
+            let first = format!("{:6}  0  0 {}", 24 * page, ".".repeat(28));
+            assert_eq!(lines[0], first);
+            assert!(lines[..used].iter().all(|line| *line != blank));
+            assert_eq!(lines[used..], vec![blank.clone(); 24 - used]);
+            // 24 times the last two wraps to 8 and to 0.
+            for past in [page + 1, u64::MAX, 768614336404564651, 1 << 61] {
+                let refusal = occupancy(&image, past, &mut []).unwrap_err();
+                assert_eq!(refusal.number, 6);
+            }
+        }
+    }
+
+    #[test]
+    fn refused_occupancy_pages() {
+        let mut image = image();
+        let refusal = |image: &[u8], page: u64, length: usize| {
+            let mut out = vec![7; length];
+            let refusal = occupancy(image, page, &mut out).unwrap_err();
+            assert_eq!(out, vec![7; length]);
+            (refusal.number, refusal.table)
+        };
+        assert_eq!(refusal(&image, 0, 1007), (7, None));
+        assert_eq!(refusal(&image, 1, 1007), (6, None));
+        // In reading order from behind: an earlier one comes first.
+        for table in [19, 24 + 2, 24 + 5, 24 + 1, 13, 5] {
+            image[64 * table + 63] ^= 1;
+            image[64 * table] ^= 1;
+            assert_eq!(refusal(&image, 0, 1008), (3, Some(table as u64)));
+            assert_eq!(refusal(&image, 0, 1007), (3, Some(table as u64)));
+            assert_eq!(refusal(&image, 1, 1008), (6, None));
+        }
+        assert_eq!(refusal(&image[1..], 1, 0), (1, None));
     }
 }

@@ -1,5 +1,5 @@
 //! The calls that are stored for the program `trial`: document 01's cases one by one, then
-//! short random histories, then rows of three asks. Always the same lines.
+//! short random histories, then rows of three asks, then occupancy pages. Always the same lines.
 
 use crate::bucket::{encode_backyard, encode_front, Member};
 use crate::fingerprint::Fingerprint;
@@ -11,8 +11,9 @@ use crate::stored::{Images, Line, Step};
 
 /// No image that is stored is longer; B is at most 21.
 pub const LONGEST_IMAGE: usize = 12800;
-/// No output that is stored has more entries.
+/// No output of a page that is stored has more entries, of an occupancy page more bytes.
 pub const LONGEST_OUTPUT: usize = 512;
+pub const LONGEST_OCCUPANCY: usize = 1040;
 
 fn g(front: u64, mini: u64, tag: u64) -> Fingerprint {
     Fingerprint { front, mini, tag }
@@ -658,6 +659,117 @@ fn refused_rows(p: &mut Player) {
     }
 }
 
+/// An occupancy page of image 0.
+fn occupancy(p: &mut Player, page: u64, length: usize) -> u64 {
+    p.play(Line::Occupancy { x: 0, page, length })
+}
+
+/// Front buckets with any number of members in front and behind. 0 to 6 share b0 = 0 and have b1
+/// from 0 to 6; 8 to 15 share b0 = 1.
+fn occupancy_pages(p: &mut Player) {
+    let some = |n: usize| full_front()[..n].to_vec();
+    p.fresh(1, 3);
+    for (f, n) in [(0, 28), (1, 1), (2, 9), (3, 10), (4, 27), (6, 26), (23, 28)] {
+        p.put_front(1, f, some(n));
+    }
+    for f in [9, 11, 12, 13, 15] {
+        p.put_front(1, f, some(28));
+    }
+    // Behind 4 there are members that its line does not count. 11 has First alone, 12 Second
+    // alone, 13 both, 15 none; 9 has b0 = b1 and both choices.
+    p.put_backyard(1, 0, overflow(3, 4));
+    let nine = both(overflow(1, 1), overflow(1, 9));
+    p.put_backyard(1, 1, both(nine, both(overflow(4, 3), overflow(9, 5))));
+    p.put_backyard(1, 4, both(overflow(2, 8), overflow(6, 9)));
+    p.put_backyard(1, 5, both(overflow(1, 8), overflow(5, 9)));
+    p.play(Line::Copy { x: 1, y: 0 });
+    for length in [1008, 0, 1, 500, 1007, 1009, LONGEST_OCCUPANCY] {
+        occupancy(p, 0, length);
+        occupancy(p, 1, length);
+    }
+    far_pages(p);
+    refused_occupancy(p);
+    // 44 behind 13, and one less.
+    p.play(Line::Copy { x: 1, y: 0 });
+    p.put_backyard(0, 1, overflow(22, 5));
+    p.put_backyard(0, 5, overflow(22, 9));
+    occupancy(p, 0, 1008);
+    p.put_backyard(0, 1, overflow(21, 5));
+    occupancy(p, 0, 1008);
+    last_occupancy(p);
+}
+
+/// Pages past the last. 24 times some of them wraps to a front bucket, in 64 bits or in 32.
+fn far_pages(p: &mut Player) {
+    for page in [2, 1 << 29, 178956971, u32::MAX as u64, 1 << 32] {
+        occupancy(p, page, 1008);
+    }
+    // 24 × page mod 2^64 is 0, 24, 2^63, 8, 16 and 0.
+    for page in [
+        1 << 61,
+        (1 << 61) + 1,
+        1 << 60,
+        768614336404564651,
+        1537228672809129302,
+        7 << 61,
+    ] {
+        occupancy(p, page, 1008);
+        occupancy(p, page, 1007);
+    }
+    occupancy(p, u64::MAX - 1, 1008);
+    occupancy(p, u64::MAX, 1008);
+}
+
+/// Unsound buckets, of which the first in reading order is told, and wrong lengths.
+fn refused_occupancy(p: &mut Player) {
+    // In reading order from behind: 23, 14, b1 of 13 and of 12, b0 of both and of 9, 0.
+    for table in [23, 14, 24 + 5, 24 + 4, 24 + 1, 0] {
+        p.put_byte(0, table, 0, 0);
+        for (page, length) in [(0, 1008), (0, 1007), (0, 0), (1, 1008), (u64::MAX, 1008)] {
+            occupancy(p, page, length);
+        }
+    }
+    // Behind 4 and 6, which have room: not read.
+    p.play(Line::Copy { x: 1, y: 0 });
+    p.put_front(0, 0, vec![]);
+    for table in [24, 24 + 6, 24 + 9] {
+        p.put_byte(0, table, 0, 0);
+        occupancy(p, 0, 1008);
+    }
+    p.put_front(0, 4, full_front());
+    occupancy(p, 0, 1008);
+    for length in [0, 1023, 2175, 2177] {
+        p.play(Line::New { x: 0, length });
+        for (page, length) in [(0, 1008), (0, 1007), (u64::MAX, 0)] {
+            occupancy(p, page, length);
+        }
+    }
+}
+
+/// The pages of other images up to the one past the last, then with an unsound bucket on the last
+/// and on the first.
+fn last_occupancy(p: &mut Player) {
+    for b in [1, 2, 4, 6, 20, 21] {
+        p.fresh(0, b);
+        let fronts = p.shape(0).fronts();
+        for n in 0..28 {
+            p.insert(0, g(fronts - 1 - n % 3, 7 * n % 36, n));
+        }
+        p.put_front(0, fronts / 2, full_front());
+        let pages = fronts.div_ceil(24);
+        let all = |p: &mut Player| {
+            for page in 0..=pages {
+                occupancy(p, page, 1008);
+            }
+        };
+        all(p);
+        for unsound in [fronts - 1, 0] {
+            p.put_byte(0, unsound, 0, 0);
+            all(p);
+        }
+    }
+}
+
 /// The stored input.
 pub fn input() -> String {
     let mut text = String::new();
@@ -681,6 +793,7 @@ pub fn input() -> String {
         }
     }
     rows(p);
+    occupancy_pages(p);
     text
 }
 
@@ -754,15 +867,15 @@ mod tests {
                 .image
                 .iter()
                 .all(|image| image.len() <= LONGEST_IMAGE));
-            assert!(images.out.len() <= LONGEST_OUTPUT);
+            assert!(images.out.len() <= 8 * LONGEST_OUTPUT);
+            if let Line::Occupancy { length, .. } = line {
+                assert!(length <= LONGEST_OCCUPANCY);
+            }
         }
         let rows = branches::ROWS.iter();
         let rows = rows.filter(|name| !branches::BEYOND_THREE.contains(name));
-        let all: BTreeSet<String> = branches::ALL
-            .iter()
-            .chain(rows)
-            .map(|name| name.to_string())
-            .collect();
+        let all = branches::ALL.iter().chain(rows).chain(branches::OCCUPANCY);
+        let all: BTreeSet<String> = all.map(|name| name.to_string()).collect();
         let missing: Vec<&String> = all.difference(&met).collect();
         let unknown: Vec<&String> = met.difference(&all).collect();
         assert!(missing.is_empty(), "missing: {missing:#?}");

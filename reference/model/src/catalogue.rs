@@ -33,6 +33,8 @@ pub trait Catalogue {
     fn count(&self, image: &[u8], hash: u64) -> u64;
     /// Value: how many + 2^32 × next.
     fn page(&self, image: &[u8], start: u64, out: &mut [u64]) -> u64;
+    /// Value 0. Nothing where an implementation has no occupancy page.
+    fn occupancy(&self, image: &[u8], page: u64, out: &mut [u8]) -> Option<u64>;
     /// Value 0.
     fn merge(&self, first: &[u8], second: &[u8], target: &mut [u8]) -> u64;
 }
@@ -105,6 +107,10 @@ impl Catalogue for Model {
         pack(calls::page(image, start, out), |paged| {
             paged.how_many + (paged.next << 32)
         })
+    }
+
+    fn occupancy(&self, image: &[u8], page: u64, out: &mut [u8]) -> Option<u64> {
+        Some(pack(calls::occupancy(image, page, out), |()| 0))
     }
 
     fn merge(&self, first: &[u8], second: &[u8], target: &mut [u8]) -> u64 {

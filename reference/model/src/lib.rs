@@ -9,20 +9,22 @@
 //! - `fingerprint`: front bucket, mini-bucket and tag of a hash
 //! - `map`: from a front bucket to its two backyard buckets and back
 //! - `bucket`: the members of a bucket from its 64 bytes and back
-//! - `calls`: the eight calls, and the row of asks
+//! - `calls`: the eight calls, the row of asks and the occupancy page
 //! - `catalogue`: the calls with the packed answers of the C boundary
 //! - `program`: the small program, lines to answers
+//! - `occupancy`: the program that prints every occupancy page, and images stored for it
 //!
 //! What tries others against it:
 //! - `stored`: stored calls as lines of text, performed on three images
 //! - `prepare`: plays lines, makes hashes and buckets
 //! - `histories`: random histories
-//! - `rows`: random rows of asks beside them
+//! - `beside`: random rows of asks and occupancy pages beside them
 //! - `cases`: the calls that are stored for the program `trial`
 //! - `vectors`: calls of another model, replayed
 //! - `branches`: the branches of the machine that a call takes
 //! - `random`, `sha256`: small helpers
 
+pub mod beside;
 pub mod branches;
 pub mod bucket;
 pub mod calls;
@@ -31,10 +33,10 @@ pub mod catalogue;
 pub mod fingerprint;
 pub mod histories;
 pub mod map;
+pub mod occupancy;
 pub mod prepare;
 pub mod program;
 pub mod random;
-pub mod rows;
 pub mod sha256;
 pub mod shape;
 pub mod stored;

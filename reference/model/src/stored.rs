@@ -67,6 +67,12 @@ pub enum Line {
         hash: u64,
         step: Step,
     },
+    /// The output has `length` bytes, byte i holding i mod 251 before the call.
+    Occupancy {
+        x: usize,
+        page: u64,
+        length: usize,
+    },
 }
 
 /// How far the hashes of a row lie apart: what is added to their two digits of 16 bits that tell
@@ -102,6 +108,7 @@ impl Line {
                 let q = ((step.front as usize) << 16) + step.mini as usize;
                 (0x0B, x, 0, 0, hash, q)
             }
+            Line::Occupancy { x, page, length } => (0x0C, x, 0, 0, page, length),
         }
     }
 
@@ -140,6 +147,11 @@ impl Line {
                 let step = Step { mini, front };
                 Line::Row { x, hash: p, step }
             }
+            0x0C => Line::Occupancy {
+                x,
+                page: p,
+                length: q,
+            },
             _ => return None,
         };
         (line.text().trim_end() == text).then_some(line)
@@ -154,7 +166,7 @@ impl Line {
         }
     }
 
-    /// Whether the line is one of the eight calls or a row.
+    /// Whether the line is one of the eight calls, a row or an occupancy page.
     pub fn is_call(self) -> bool {
         !matches!(
             self,
@@ -163,61 +175,75 @@ impl Line {
     }
 }
 
-/// Three images, and the output of the last page or the fields of the last row's entries.
+/// Three images, and what the last call was lent besides, as bytes: the output of a page or of an
+/// occupancy page, or the fields of a row's entries.
 #[derive(Clone, Default, PartialEq, Eq)]
 pub struct Images {
     pub image: [Vec<u8>; 3],
-    pub out: Vec<u64>,
+    pub out: Vec<u8>,
 }
 
 impl Images {
     /// Performs a line. The answer of a line that is no call is 0.
     pub fn perform(&mut self, catalogue: &dyn Catalogue, line: Line) -> u64 {
         self.out.clear();
+        let image = &mut self.image;
         match line {
-            Line::New { x, length } => self.image[x] = vec![0; length],
-            Line::Poke { x, at, word } => {
-                self.image[x][at..at + 8].copy_from_slice(&word.to_le_bytes())
-            }
-            Line::Copy { x, y } => self.image[y] = self.image[x].clone(),
-            Line::Insert { x, hash } => return catalogue.insert(&mut self.image[x], hash),
-            Line::Delete { x, hash } => return catalogue.delete(&mut self.image[x], hash),
-            Line::Ask { x, hash } => return catalogue.ask(&self.image[x], hash),
-            Line::Count { x, hash } => return catalogue.count(&self.image[x], hash),
-            Line::Page { x, start, length } => {
-                self.out = (0..length as u64).map(|i| u64::MAX - i).collect();
-                return catalogue.page(&self.image[x], start, &mut self.out);
-            }
-            Line::Fresh { x } => return catalogue.fresh(&mut self.image[x]),
-            Line::Check { x } => return catalogue.check(&self.image[x]),
+            Line::New { x, length } => image[x] = vec![0; length],
+            Line::Poke { x, at, word } => image[x][at..at + 8].copy_from_slice(&word.to_le_bytes()),
+            Line::Copy { x, y } => image[y] = image[x].clone(),
+            Line::Insert { x, hash } => return catalogue.insert(&mut image[x], hash),
+            Line::Delete { x, hash } => return catalogue.delete(&mut image[x], hash),
+            Line::Ask { x, hash } => return catalogue.ask(&image[x], hash),
+            Line::Count { x, hash } => return catalogue.count(&image[x], hash),
+            Line::Fresh { x } => return catalogue.fresh(&mut image[x]),
+            Line::Check { x } => return catalogue.check(&image[x]),
             Line::Merge { x, y, z } => {
                 assert!(z != x && z != y, "the target is no source");
-                let mut target = std::mem::take(&mut self.image[z]);
-                let answer = catalogue.merge(&self.image[x], &self.image[y], &mut target);
-                self.image[z] = target;
+                let mut target = std::mem::take(&mut image[z]);
+                let answer = catalogue.merge(&image[x], &image[y], &mut target);
+                image[z] = target;
                 return answer;
             }
-            Line::Row { x, hash, step } => {
-                let mut row = row_hashes(hash, step).map(entry);
-                let answer = catalogue.row(&self.image[x], &mut row);
-                self.out = row.iter().flat_map(numbers).collect();
-                return answer.expect("an implementation that has rows");
+            Line::Page { .. } | Line::Row { .. } | Line::Occupancy { .. } => {
+                return self.perform_with_output(catalogue, line);
             }
         }
         0
     }
 
-    /// FNV-1a over the bytes that the call was lent: the image and, for a page, the output, for
-    /// a row the fields of its entries; for a merge the three images in their order.
+    /// Performs a call that is lent more than an image.
+    fn perform_with_output(&mut self, catalogue: &dyn Catalogue, line: Line) -> u64 {
+        let bytes = |numbers: &[u64]| numbers.iter().flat_map(|n| n.to_le_bytes()).collect();
+        let answer = match line {
+            Line::Page { x, start, length } => {
+                let mut out: Vec<u64> = (0..length as u64).map(|i| u64::MAX - i).collect();
+                let answer = catalogue.page(&self.image[x], start, &mut out);
+                self.out = bytes(&out);
+                Some(answer)
+            }
+            Line::Row { x, hash, step } => {
+                let mut row = row_hashes(hash, step).map(entry);
+                let answer = catalogue.row(&self.image[x], &mut row);
+                self.out = bytes(row.map(|entry| numbers(&entry)).as_flattened());
+                answer
+            }
+            Line::Occupancy { x, page, length } => {
+                self.out = output_before(length);
+                catalogue.occupancy(&self.image[x], page, &mut self.out)
+            }
+            _ => panic!("a call without output"),
+        };
+        answer.expect("an implementation that has this call")
+    }
+
+    /// FNV-1a over the bytes that the call was lent: the image, for a merge the three in their
+    /// order, then the output.
     fn checksum(&self, line: Line) -> u64 {
-        let mut sum = FNV_START;
-        for x in line.images() {
-            sum = fnv1a(sum, &self.image[x]);
-        }
-        for entry in &self.out {
-            sum = fnv1a(sum, &entry.to_le_bytes());
-        }
-        sum
+        let images = line.images().into_iter().map(|x| &self.image[x]);
+        images
+            .chain([&self.out])
+            .fold(FNV_START, |sum, bytes| fnv1a(sum, bytes))
     }
 
     /// The line that answers a call; nothing for a line that is no call.
@@ -229,6 +255,11 @@ impl Images {
         let (operation, ..) = line.fields();
         format!("{operation:02X}{answer:016X}{:016X}\n", self.checksum(line))
     }
+}
+
+/// The output of an occupancy page before the call.
+pub fn output_before(length: usize) -> Vec<u8> {
+    (0..length).map(|i| (i % 251) as u8).collect()
 }
 
 /// An entry of a row before the call: all but the hash is 7, so that what is kept shows.
@@ -301,6 +332,11 @@ mod tests {
                     front: 0xFFFD,
                 },
             },
+            Line::Occupancy {
+                x: 2,
+                page: u64::MAX,
+                length: 1040,
+            },
         ] {
             let text = line.text();
             assert_eq!(text.len(), WIDTH + 1);
@@ -337,14 +373,29 @@ mod tests {
         row(Line::New { x: 0, length: 1024 });
         row(Line::Fresh { x: 0 });
         let hashes = row_hashes(5, step);
-        let fields = |told: [u64; 4]| -> Vec<u64> {
-            hashes
-                .iter()
-                .flat_map(|&h| [&[h], &told[..]].concat())
-                .collect()
+        let fields = |told: [u64; 4]| -> Vec<u8> {
+            let fields = hashes.iter().flat_map(|&h| [&[h], &told[..]].concat());
+            fields.flat_map(u64::to_le_bytes).collect()
         };
         assert_eq!(row(ask), (1, fields([1, 0, 0, 7])));
         row(Line::New { x: 0, length: 1025 });
         assert_eq!(row(ask), (1 << 56, fields([7, 7, 7, 7])));
+    }
+    #[test]
+    fn an_occupancy_page_and_what_it_keeps() {
+        let mut images = Images::default();
+        images.perform(&Model, Line::New { x: 0, length: 1024 });
+        images.perform(&Model, Line::Fresh { x: 0 });
+        let mut page = |page, length| {
+            let answer = images.perform(&Model, Line::Occupancy { x: 0, page, length });
+            (answer, images.out.clone())
+        };
+        let (answer, out) = page(0, 1010);
+        assert_eq!((answer, out.len()), (0, 1010));
+        assert_eq!(out[..13], *b"     0  0  0 ");
+        // 1,008 = 4 × 251 + 4.
+        assert_eq!(out[1006..], [b' ', b'\n', 4, 5]);
+        assert_eq!(page(1, 253), (6 << 56, output_before(253)));
+        assert_eq!(output_before(253)[250..], [250, 0, 1]);
     }
 }

@@ -12,6 +12,7 @@
 //! page R S LENGTH      output entry i holds 2^64 - 1 - i before   = 0 HOW_MANY NEXT SHA SHA_OUTPUT
 //! merge R R2 R3        R3 is the target                           = 0 SHA SHA2 SHA3
 //! row R HASHES         an ENTRY is READS/PLACE/SLOT               = 0 TOTAL ENTRIES SHA
+//! occupancy R P LENGTH output byte i holds i mod 251 before       = 0 SHA SHA_OUTPUT
 //! ```
 //!
 //! A refusal has NUMBER, or NUMBER TABLE_NUMBER, in the place of 0 and the values. HASH and HEX
@@ -20,6 +21,7 @@
 
 use crate::catalogue::{Catalogue, Entry};
 use crate::sha256::sha256;
+use crate::stored::output_before;
 use std::collections::HashMap;
 
 type Images = HashMap<String, Vec<u8>>;
@@ -104,7 +106,6 @@ fn pair(value: u64) -> String {
 /// Performs one call: the text of its result. Nothing where the catalogue has no such call.
 fn perform(catalogue: &dyn Catalogue, images: &mut Images, call: &str) -> Option<String> {
     let words: Vec<&str> = call.split(' ').collect();
-    let nothing = |_| String::new();
     if words[0] == "merge" {
         let mut target = images.remove(words[3]).expect("an image");
         let answer = catalogue.merge(&images[words[1]], &images[words[2]], &mut target);
@@ -116,9 +117,25 @@ fn perform(catalogue: &dyn Catalogue, images: &mut Images, call: &str) -> Option
         images.insert(words[1].to_string(), vec![0; number(words[2]) as usize]);
     }
     let image = images.get_mut(words[1]).expect("an image");
+    let (result, output) = match words[0] {
+        "page" | "occupancy" => {
+            let (result, output) = with_output(catalogue, image, &words)?;
+            (result, format!(" {}", sha256(&output)))
+        }
+        _ => (on_image(catalogue, image, &words)?, String::new()),
+    };
+    Some(format!("{result} {}{output}", sha256(image)))
+}
+
+/// What follows the 0 of a call that gives no value.
+fn nothing(_: u64) -> String {
+    String::new()
+}
+
+/// A call on one image.
+fn on_image(catalogue: &dyn Catalogue, image: &mut [u8], words: &[&str]) -> Option<String> {
     let answer = |value| format!(" {value}");
-    let mut output_digest = String::new();
-    let result = match words[0] {
+    Some(match words[0] {
         "new" => "-".to_string(),
         "poke" => {
             let (at, new) = (number(words[2]) as usize, bytes(words[3]));
@@ -131,13 +148,6 @@ fn perform(catalogue: &dyn Catalogue, images: &mut Images, call: &str) -> Option
         "delete" => text(catalogue.delete(image, hash(words[2])), answer),
         "ask" => text(catalogue.ask(image, hash(words[2])), asked),
         "count" => text(catalogue.count(image, hash(words[2])), pair),
-        "page" => {
-            let mut out: Vec<u64> = (0..number(words[3])).map(|i| u64::MAX - i).collect();
-            let answer = catalogue.page(image, number(words[2]), &mut out);
-            let written: Vec<u8> = out.iter().flat_map(|x| x.to_le_bytes()).collect();
-            output_digest = format!(" {}", sha256(&written));
-            text(answer, pair)
-        }
         "row" => {
             let before = entries(words[2]);
             let mut row = before.clone();
@@ -148,8 +158,25 @@ fn perform(catalogue: &dyn Catalogue, images: &mut Images, call: &str) -> Option
             }
         }
         other => panic!("no such call: {other}"),
-    };
-    Some(format!("{result} {}{output_digest}", sha256(image)))
+    })
+}
+
+/// A page or an occupancy page, with the bytes of its output.
+fn with_output(
+    catalogue: &dyn Catalogue,
+    image: &[u8],
+    words: &[&str],
+) -> Option<(String, Vec<u8>)> {
+    let (from, length) = (number(words[2]), number(words[3]));
+    if words[0] == "page" {
+        let mut out: Vec<u64> = (0..length).map(|i| u64::MAX - i).collect();
+        let answer = catalogue.page(image, from, &mut out);
+        let bytes = out.iter().flat_map(|x| x.to_le_bytes());
+        return Some((text(answer, pair), bytes.collect()));
+    }
+    let mut out = output_before(length as usize);
+    let answer = catalogue.occupancy(image, from, &mut out)?;
+    Some((text(answer, nothing), out))
 }
 
 /// Replays a whole text.
@@ -193,12 +220,14 @@ mod tests {
              delete a 1F = 5 {fresh}\n\
              ask a 1F = 0 1 0 - {fresh}\n\
              row a 1F,2F = 0 1 1/0/-,1/0/- {fresh}\n\
-             row a - = 0 0 - {fresh}\n",
-            sha256(&[0; 1024])
+             row a - = 0 0 - {fresh}\n\
+             occupancy a 1 9 = 6 {fresh} {}\n",
+            sha256(&[0; 1024]),
+            sha256(&[0, 1, 2, 3, 4, 5, 6, 7, 8]),
         );
         let replayed = replay(&Model, &good);
-        assert_eq!((replayed.compared, replayed.differences.len()), (6, 0));
-        for (right, wrong) in [("= 5", "= 4"), ("1/0/- ", "1/1/0 ")] {
+        assert_eq!((replayed.compared, replayed.differences.len()), (7, 0));
+        for (right, wrong) in [("= 5", "= 4"), ("1/0/- ", "1/1/0 "), (" 9 ", " 8 ")] {
             let wrong = good.replace(right, wrong);
             assert_eq!(replay(&Model, &wrong).differences.len(), 1);
         }
