@@ -81,13 +81,13 @@ pub fn remove_back(b: &mut [u8], slot: usize, member: u32)
     remove_crumb(&mut b[slots::CRUMBS_AT..64], slot);
 }
 
-// All bytes 0.
-fn zero(s: &mut [u8])
-    ensures { λ _. ⌜ now (s .exit) ≡ replicate (length (now (s .entry))) 0 ⌝ }
+// Every byte becomes `byte`.
+pub fn fill(s: &mut [u8], byte: u8)
+    ensures { λ _. ⌜ now (s .exit) ≡ replicate (length (now (s .entry))) byte ⌝ }
 {
     let mut i = 0;
     while i < s.len() {
-        s[i] = 0;
+        s[i] = byte;
         i += 1;
     }
 }
@@ -97,6 +97,6 @@ pub fn clear(b: &mut [u8])
     requires { ⌜ length (now b) ≡ 64 ⌝ }
     ensures { λ _. ⌜ now (b .exit) ≡ frontBytes layout1 [] ⌝ }
 {
-    zero(&mut b[slots::TAGS_AT..64]);
+    fill(&mut b[slots::TAGS_AT..64], 0);
     word::put_word(b, word::EMPTY);
 }

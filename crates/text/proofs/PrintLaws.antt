@@ -1,12 +1,12 @@
 -- Text written over an output: a piece behind a piece is one longer piece; the lengths of lines.
--- Main results: over-next, over-set, over-hex, over-line, over-more, text-more.
+-- Main results: over-next, over-set, over-written, over-all, over-hex, over-line, over-more, text-more.
 use mathlib.Core.Path.{_≡_, refl, sym, _∙_, ap}
 use Prim.Native.Nat.{ℕ, zero, suc, _+_, _*_, _-_, _/_, _≤_, _<_}
 use mathlib.Core.List.{List, [], _∷_, _++_, append-assoc, append-nil}
 use native.Mathlib.Omega.{arith}
 use native.Mathlib.Numerals.{add-one}
 use lib.ListN.{length, take, drop, getD, set, length-append, length-drop, take-append-drop}
-use lib.Seq.{length-take-le, take-at, drop-at, drop-drop, take-suc, sets-eq}
+use lib.Seq.{length-take-le, take-at, drop-at, drop-drop, drop-length, take-suc, sets-eq}
 use borrow.Rule.Slice.PartMut.{putMid}
 use Rattle.text.specs.Texts.{hex, over}
 use Rattle.text.specs.Lines.{entry, line, entryLines}
@@ -64,6 +64,24 @@ pub over-set : (i v : ℕ) (xs : List ℕ) → i < length xs → set xs i v ≡ 
 unfolding over
 over-set i v xs h = sets-eq (v ∷ []) xs i (omega arith) ∙ append-assoc (take i xs) (v ∷ []) (drop (i + 1) xs) ∙ rw (drop-drop 1 i xs)
 
+-- a part of the output, written whole
+pub over-part : (at d : ℕ) (ys xs : List ℕ) → length ys ≡ d → putMid at d xs ys ≡ over at ys xs
+unfolding over
+over-part at d ys xs e = rw e
+
+-- what is written into the whole of a part, however long that is
+pub over-written : (w : ℕ → List ℕ) → ((n : ℕ) → length (w n) ≡ n) → (at d : ℕ) (xs ys : List ℕ) → at + d ≤ length xs
+    → ys ≡ w (length (take d (drop at xs))) → putMid at d xs ys ≡ over at (w d) xs
+over-written w long at d xs ys h e =
+    let l : length (take d (drop at xs)) ≡ d = length-take-le d (drop at xs) (rw (length-drop at xs) (omega arith)) in
+    let f : ys ≡ w d = e ∙ ap w l in
+    rw f (over-part at d (w d) xs (long d))
+
+-- all of the output
+pub over-all : (ys xs : List ℕ) → length ys ≡ length xs → over 0 ys xs ≡ ys
+unfolding over
+over-all ys xs e = rw (e, drop-length xs) (append-nil ys)
+
 -- nothing written
 pub over-nothing : (at : ℕ) (xs : List ℕ) → xs ≡ over at [] xs
 unfolding over
@@ -74,12 +92,9 @@ over-nothing at xs = sym (take-append-drop at xs)
 -- digits written into a part of the output
 pub over-hex : (at d v : ℕ) (xs ys : List ℕ) → at + d ≤ length xs → ys ≡ hex (length (take (at + d - at) (drop at xs))) v
     → putMid at (at + d - at) xs ys ≡ over at (hex d v) xs
-unfolding over
 over-hex at d v xs ys h e =
     let k : at + d - at ≡ d = omega arith in
-    let l : length (take d (drop at xs)) ≡ d = length-take-le d (drop at xs) (rw (length-drop at xs) (omega arith)) in
-    let f : ys ≡ hex d v = e ∙ rw (k, l) in
-    rw (k, f, length-hex d v)
+    rw k (over-written (λ (n : ℕ). hex n v) (λ n. length-hex n v) at d xs ys h (rw k at e))
 
 -- 16 digits and a newline
 pub over-entry : (at v : ℕ) (xs ys : List ℕ) → at + 17 ≤ length xs → ys ≡ over at (hex 16 v) xs → set ys (at + 16) 10 ≡ over at (entry v) xs

@@ -15,6 +15,13 @@ use Rattle.text.specs.Texts.{letter, digitOf, hex, unhex}
 use Rattle.text.specs.Lines.{digitsOf}
 use Rattle.text.specs.declared.Digits.the-variants.{Number, Other}
 
+-- a byte that is stored in front of those that stand, behind a text w that is still to write
+pub stands-before : (w out : List ℕ) (i d : ℕ) → i < length out → (w ++ (d ∷ [])) ++ drop (suc i) out ≡ w ++ drop i (set out i d)
+stands-before w out i d h =
+    let l : i < length (set out i d) = rw (length-set out i d) h in
+    append-assoc w (d ∷ []) (drop (suc i) out)
+    ∙ rw (drop-cons (set out i d) i 0 l, getD-set-same out i d 0 h, drop-set-lt (suc i) out i d (omega arith))
+
 -- one digit more is written in front of those that stand
 pub hex-written : (n number i v d : ℕ) (out : List ℕ) → 0 < i → i ≤ length out → d ≡ letter (v % 16) → hex n number ≡ hex i v ++ drop i out
     → hex n number ≡ hex (i - 1) (v / 16) ++ drop (i - 1) (set out (i - 1) d)
@@ -22,9 +29,7 @@ unfolding hex
 hex-written n number zero v d out p h e q = absurd (omega arith)
 hex-written n number (suc i) v d out p h e q =
     let j : suc i - 1 ≡ i = omega arith in
-    let l : i < length (set out i d) = rw (length-set out i d) (omega arith) in
-    q ∙ append-assoc (hex i (v / 16)) (letter (v % 16) ∷ []) (drop (suc i) out)
-    ∙ rw (j, drop-cons (set out i d) i 0 l, getD-set-same out i d 0 (omega arith), drop-set-lt (suc i) out i d (omega arith), e)
+    q ∙ rw (j, e) (stands-before (hex i (v / 16)) out i (letter (v % 16)) (omega arith))
 
 -- reading: the number of all is the number of what is left behind what is read
 pub unhex-read : (i v d : ℕ) (text : List ℕ) → i < length text → digitOf (getD text i 0) ≡ some d

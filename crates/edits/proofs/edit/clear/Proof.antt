@@ -12,8 +12,8 @@ returns c =
     let done = put .before .before .before .before in
     let s = done .before .before .before in
     let b = s .args .b .now in
-    let zeros = done .zero .last .0 in
-    put .put-word .ensures ∙ word-put b zeros 64 68719476735 (omega arith) (omega arith) ∙ cleared b zeros (s .pre) (done .zero .ensures)
+    let zeros = done .fill .last .0 in
+    put .put-word .ensures ∙ word-put b zeros 64 68719476735 (omega arith) (omega arith) ∙ cleared b zeros (s .pre) (done .fill .ensures)
 
 pub clear-spec : {M : Type 1} → statement M
 clear-spec =
