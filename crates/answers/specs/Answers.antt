@@ -9,6 +9,7 @@ use Rattle.machine.specs.Results.{Result, accepted, refused, andThen}
 use Rattle.machine.specs.Machine as M
 use Rattle.machine.specs.Pages.{Run}
 use Rattle.machine.specs.Calls.{freshOf, insertOf, deleteOf, pageOf, mergeOf, written, imageOf, outputOf, targetOf}
+use Rattle.machine.specs.OccupancyPages.{occupancyOf, printed}
 use Rattle.answers.specs.declared.Refusal.{Refusal}
 use Rattle.answers.specs.declared.Refusal.the-variants.{WrongLength, LengthsDiffer, Unsound, Full, Absent, PastEnd, NoRoom, Early, Descending}
 use Rattle.answers.specs.declared.Outcome.{Outcome}
@@ -39,7 +40,7 @@ numbered Descending = (10, 0)
 abbrev pub refusal : {A : Type 0} → Refusal → Result A
 refusal r = refused (numbered r .0) (numbered r .1)
 
--- "fresh, check and merge give 0 when accepted"
+-- "fresh, check and merge give 0 when accepted"; an occupancy page too
 abbrev pub outcomeOf : Outcome → Result (Unit {0})
 outcomeOf D.Accepted = accepted tt
 outcomeOf (D.Refused r) = refusal r
@@ -113,3 +114,12 @@ pub record Fills (L : Layout) (m : Result (List ℕ)) (old : List ℕ) (r : Outc
 -- a merge of two images into the target `old`
 abbrev pub Merges : Layout → List ℕ → List ℕ → List ℕ → Outcome → List ℕ → Type 0
 Merges L a b old r new = Fills L (mergeOf L a b old) old r new
+
+-- a call that prints what `m` is on the machine: its answer, and the output `new` after it
+pub record Prints (m : Result (List ℕ)) (old : List ℕ) (r : Outcome) (new : List ℕ) : Type 0 where
+  pub answer : outcomeOf r ≡ blank m
+  pub bytes : new ≡ printed m old
+
+-- the occupancy page p of an image into the output `old`
+abbrev pub Occupancies : Layout → List ℕ → ℕ → List ℕ → Outcome → List ℕ → Type 0
+Occupancies L img p old r new = Prints (occupancyOf L img p (length old)) old r new

@@ -17,7 +17,7 @@ pub enum Refusal {
     Descending,
 }
 
-// What a fresh, a check or a merge gives.
+// What a fresh, a check, a merge or an occupancy page gives.
 pub enum Outcome {
     Accepted,
     Refused(Refusal),

@@ -1,9 +1,10 @@
 -- The contracts and the history theorem joined: demand 3 holds of the calls themselves (`demand`), and each backyard member in the image
--- that they left leads home (`calls-lead-home`).
+-- that they left leads home (`calls-lead-home`), and its occupancy pages tell the ledger (`calls-tell-occupancy`).
 use mathlib.Core.Path.{_≡_, refl, sym, _∙_, ap}
 use mathlib.Core.Logic.{_↔_}
 use Prim.Native.Nat.{ℕ, _^_, _<_, _≤_}
 use mathlib.Core.List.{List}
+use lib.ListN.{length}
 use native.Mathlib.Omega.{arith}
 use Rattle.crumbmap.specs.Layouts.{layout1}
 use Rattle.crumbmap.specs.Fingerprints.{frontOf, keyOf}
@@ -12,7 +13,8 @@ use Rattle.machine.specs.Homes.{AllLeadHome}
 use Rattle.machine.specs.Results.{accepted, number}
 use Rattle.machine.specs.Machine as M
 use Rattle.machine.specs.Calls.{askOf, countOf}
-use Rattle.answers.specs.Answers.{askedOf, countedOf, placeOf}
+use Rattle.answers.specs.Answers.{askedOf, countedOf, placeOf, Prints, Occupancies}
+use Rattle.answers.specs.declared.Outcome.{Outcome}
 use Rattle.answers.specs.declared.Counted.{Counted}
 use Rattle.answers.specs.declared.CountResult.{CountResult}
 use Rattle.answers.specs.declared.CountResult.the-variants as T
@@ -26,7 +28,8 @@ use Rattle.history.specs.Histories.{Call, History, Fits, Started, blocks, bytes
 use Rattle.history.specs.Ledgers.{ledger, smaller}
 use Rattle.history.specs.Refusals.{due}
 use Rattle.history.specs.Demand.{Holds}
-use Rattle.history.proofs.Theorem.{demand3-layout1, members-lead-home}
+use Rattle.history.specs.Occupancies.{pageSaid}
+use Rattle.history.proofs.Theorem.{demand3-layout1, members-lead-home, occupancy-said}
 use Rattle.catalogue.specs.Runs.{Performed, Happened}
 use Rattle.catalogue.specs.Delivery.{Demand, filed}
 use Rattle.machine.proofs.AcceptedLaws.{same-answer}
@@ -91,3 +94,8 @@ demand h img happened =
 -- and in the image that the calls left, each backyard member leads by its crumb back to a front bucket that is full, none larger than it
 pub calls-lead-home : {h : History} {img : List ℕ} → Happened h img → AllLeadHome layout1 (blocks h) img
 calls-lead-home {h} happened = rw (left happened) (members-lead-home layout1 fits1 h (started happened))
+
+-- and an occupancy page of that image prints what the ledger says: for each front bucket all of N over its fingerprints, split at 28
+pub calls-tell-occupancy : {h : History} {img : List ℕ} → Happened h img → (p : ℕ) (old new : List ℕ) (r : Outcome)
+    → Occupancies layout1 img p old r new → Prints (pageSaid layout1 h p (length old)) old r new
+calls-tell-occupancy {h} happened p old new r c = rw (left happened, occupancy-said layout1 fits1 h (started happened) p (length old)) at c

@@ -1,26 +1,38 @@
 -- Demand 3, for every layout whose buckets fit 64 bytes (`demand3`) and at layout 1 (`demand3-layout1`): after every history each call
 -- was refused exactly where it is due, counts and asks tell the ledger, and a full walk lists it.
 -- Beside it: check accepts every history's image (`check-accepts`), so each backyard member in it leads home (`members-lead-home`), and a
--- merge of two is refused only when full (`merge-refused-only-full`).
-use mathlib.Core.Path.{_≡_}
+-- merge of two is refused only when full (`merge-refused-only-full`); an occupancy page tells the ledger (`occupancy-said`, `line-said`, `line-shows`).
+use mathlib.Core.Path.{_≡_, sym, _∙_}
 use mathlib.Core.Logic.{_⊎_}
-use Prim.Native.Nat.{ℕ}
+use Prim.Native.Nat.{ℕ, _+_, _*_, _-_, _^_, _≤_, _<_}
+use mathlib.Core.Bool.{Bool, true, false, cond}
 use mathlib.Core.List.{List}
-use lib.ListN.{length}
-use Rattle.crumbmap.specs.Layouts.{Layout, layout1}
+use native.Mathlib.Omega.{arith}
+use lib.ListN.{length, take, drop}
+use lib.Dec.{leb, ltb}
+use borrow.Author.Tests.{lt-ltb}
+use Rattle.crumbmap.specs.Layouts.{Layout, layout1, fronts, mostBehind, mostMembers}
 use Rattle.buckets.specs.Buckets.{Fits64}
 use Rattle.buckets.proofs.BucketLaws.{fits1}
-use Rattle.machine.specs.Results.{accepted, number}
+use Rattle.machine.specs.Results.{accepted, refused, number}
 use Rattle.machine.specs.Homes.{AllLeadHome}
 use Rattle.machine.specs.Calls.{checkOf, mergeOf}
+use Rattle.machine.specs.OccupancyPages.{pageLines, lineBytes, pageBytes, printFrom, occupancyOf, lineWith, lineOf}
 use Rattle.history.specs.Histories.{History, Started, blocks, bytesAfter}
 use Rattle.history.specs.Ledgers.{ledger}
 use Rattle.history.specs.Demand.{Demand3}
+use Rattle.history.specs.Occupancies.{filedIn, pageSaid, Shows}
 use Rattle.machine.proofs.Invariant.{Good}
 use Rattle.machine.proofs.CheckLaws.{check-good}
 use Rattle.machine.proofs.HomeLaws.{all-lead-home}
 use Rattle.machine.proofs.MergeLaws.{merge-number}
+use Rattle.machine.proofs.AcceptedLaws.{same-answer, never-refused}
+use Rattle.machine.proofs.OccupancyLaws.{page-counted, lines-at}
+use Rattle.machine.proofs.ImageLaws.{sizeOf-some}
+use Rattle.machine.proofs.PageLaws.{members-good, bucket-length}
+use Rattle.machine.proofs.RoomLaws.{members-room}
 use Rattle.history.proofs.LedgerLaws.{keeps, all-due, count-ledger, ask-ledger, mergeOf-at}
+use Rattle.history.proofs.ShownLaws.{line-shown}
 use Rattle.history.proofs.WalkSegments.{full-walk}
 
 pub demand3 : (L : Layout) → Fits64 L → Demand3 L
@@ -39,6 +51,12 @@ pub demand3-layout1 : Demand3 layout1
 demand3-layout1 = demand3 layout1 fits1
 
 -- ---- beside it
+
+-- the text of a page that is accepted
+page-text : (past short : Bool) (t : List ℕ) {text : List ℕ} → cond past (refused 6 0) (cond short (refused 7 0) (accepted t)) ≡ accepted text → t ≡ text
+page-text true short t e = absurd (never-refused (sym e))
+page-text false true t e = absurd (never-refused (sym e))
+page-text false false t e = same-answer e
 
 module _ (L : Layout) (fits : Fits64 L) where
   -- check accepts every image that a history leaves
@@ -61,3 +79,43 @@ module _ (L : Layout) (fits : Fits64 L) where
       let g : Good L (blocks a) (bytesAfter L b) = rw same at gb in
       rw (mergeOf-at L fits (blocks a) (bytesAfter L a) (bytesAfter L b) old (ga .size) (g .size) (rw (← p) (ga .size)))
       (merge-number L fits (blocks a) (bytesAfter L a) (bytesAfter L b) ga g)
+
+  -- an occupancy page after a history is the one that its ledger says
+  pub occupancy-said : (h : History) → Started L h → (p room : ℕ) → occupancyOf L (bytesAfter L h) p room ≡ pageSaid L h p room
+  unfolding occupancyOf printFrom pageSaid filedIn
+  occupancy-said h s p room =
+      let keep = keeps L fits h s in
+      rw (
+        keep .good .size,
+        page-counted L (blocks h) (bytesAfter L h) (ledger L h) (keep .good) (keep .says) pageLines (pageLines * p),
+      )
+
+  -- line i of such a page: its two counts are the front slots' share of what is filed in that front bucket, and the rest
+  pub line-said : (h : History) → Started L h → (p room i : ℕ) (text : List ℕ) → i < pageLines → pageLines * p + i < fronts (blocks h)
+      → occupancyOf L (bytesAfter L h) p room ≡ accepted text
+      → let f = pageLines * p + i in take (lineBytes L) (drop (i * lineBytes L) text) ≡ lineWith L f (filedIn L (ledger L h) f)
+  unfolding pageSaid lineOf
+  line-said h s p room i text l k e =
+      let t = page-text (leb (fronts (blocks h)) (pageLines * p)) (ltb room (pageBytes L)) _ (sym (occupancy-said h s p room) ∙ e) in
+      rw (← t)
+      (lines-at L (filedIn L (ledger L h)) (fronts (blocks h)) pageLines (pageLines * p) i l ∙ rw (lt-ltb (pageLines * p + i) (fronts (blocks h)) k))
+
+  -- a front bucket and those behind it have no more slots
+  filed-room : (h : History) → Started L h → (f : ℕ) → f < fronts (blocks h) → filedIn L (ledger L h) f ≤ mostMembers L
+  unfolding filedIn
+  filed-room h s f k =
+      let keep = keeps L fits h s in
+      let m = members-good L (blocks h) (bytesAfter L h) (keep .good) f k in
+      rw (← bucket-length L (blocks h) (bytesAfter L h) (keep .good) (ledger L h) (keep .says) f (m .0) k (m .2))
+      (members-room L (blocks h) f (bytesAfter L h) (m .0) (m .1))
+
+  -- and whoever reads its numbers reads these
+  pub line-shows : L .frontSlots < 10 ^ 2 → mostBehind L < 10 ^ 2 → (h : History) → Started L h → (p room i : ℕ) (text : List ℕ)
+      → i < pageLines → pageLines * p + i < fronts (blocks h) → occupancyOf L (bytesAfter L h) p room ≡ accepted text
+      → let f = pageLines * p + i in Shows L f (filedIn L (ledger L h) f) (take (lineBytes L) (drop (i * lineBytes L) text))
+  unfolding fronts
+  line-shows q r h s p room i text l k e =
+      let f : ℕ = pageLines * p + i in
+      let small = sizeOf-some (length (bytesAfter L h)) (blocks h) (keeps L fits h s .good .size) .2 in
+      rw (line-said h s p room i text l k e)
+      (line-shown L f (filedIn L (ledger L h) f) (omega arith) q (omega (arith, filed-room h s f k)))

@@ -22,3 +22,5 @@ pub mod HomeLaws
 pub mod MergeLaws
 pub mod RoomLaws
 pub mod RowLaws
+pub mod OccupancyLaws
+pub mod LineCases

@@ -87,7 +87,7 @@ module _ (L : Layout) (B : ℕ) (img : List ℕ) (good : Good L B img) where
         rw (suc-mul s (keys L))
         (segment-shifted N (s * keys L) (keys L) xs (m .order) (m .range) (λ y l. m .each y ∙ sym (says s y h l)))
 
-    bucket-length : (s : ℕ) (xs : List ℕ) → s < fronts B → Members L B s img xs → length xs ≡ sum N (fingerprint L s 0) (keys L)
+    pub bucket-length : (s : ℕ) (xs : List ℕ) → s < fronts B → Members L B s img xs → length xs ≡ sum N (fingerprint L s 0) (keys L)
     unfolding fingerprint
     bucket-length s xs h m = length-sum N (s * keys L) (keys L) xs (m .range) (λ y l. m .each y ∙ sym (says s y h l))
 

@@ -1,4 +1,4 @@
--- The plain machine of document 01, from the image up to the calls, and the rows of document 02.
+-- The plain machine of document 01, from the image up to the calls, and the rows and occupancy pages of document 02.
 pub mod Results
 pub mod Images
 pub mod Bags
@@ -10,3 +10,4 @@ pub mod Homes
 pub mod Merges
 pub mod Calls
 pub mod Rows
+pub mod OccupancyPages
