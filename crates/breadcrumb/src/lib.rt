@@ -1,4 +1,4 @@
-// The catalogue: one lent image, and the nine calls on it. Each gives the documents' answer, or why it is refused, and every byte that it was
+// The catalogue: one lent image, and the ten calls on it. Each gives the documents' answer, or why it is refused, and every byte that it was
 // lent is the plain machine's after it.
 
 use answers::AskResult;
@@ -15,7 +15,7 @@ use rows::sweep;
 ghost use mathlib.Core.Path.{_≡_};
 ghost use Rattle.crumbmap.specs.Layouts.{layout1};
 ghost use Rattle.machine.specs.Calls.{askOf, countOf, checkOf};
-ghost use Rattle.answers.specs.Answers.{outcomeOf, askedOf, countedOf, Freshens, Inserts, Deletes, Pages, Merges};
+ghost use Rattle.answers.specs.Answers.{outcomeOf, askedOf, countedOf, Freshens, Inserts, Deletes, Pages, Occupancies, Merges};
 ghost use Rattle.answers.specs.Rows.{Rows};
 
 // The image becomes an empty catalogue, whatever its bytes were.
@@ -70,6 +70,13 @@ pub fn page(image: &[u8], start: usize, out: &mut [u64]) -> PageResult
     ensures { λ r. ⌜ Pages layout1 (now (image .entry)) start (now (out .entry)) r (now (out .exit)) ⌝ }
 {
     paging::page::page(image, start, out)
+}
+
+// The occupancy of 24 front buckets from 24 × `page` on as text, into the start of `out`.
+pub fn occupancy(image: &[u8], page: u64, out: &mut [u8]) -> Outcome
+    ensures { λ r. ⌜ Occupancies layout1 (now (image .entry)) page (now (out .entry)) r (now (out .exit)) ⌝ }
+{
+    printing::page::occupancy(image, page, out)
 }
 
 // Whether the bytes are a catalogue.

@@ -1,5 +1,6 @@
 -- The value of each call on an image is below 2^56: answers and table numbers are small, and members are few.
--- Main results: fresh-fits, check-fits, insert-fits, delete-fits, ask-fits, count-fits, page-fits, merge-fits, row-fits.
+-- Main results: fresh-fits, check-fits, insert-fits, delete-fits, ask-fits, count-fits, page-fits, occupancy-fits,
+-- merge-fits, row-fits.
 use mathlib.Core.Path.{_≡_, refl, sym}
 use Prim.Native.Nat.{ℕ, zero, suc, _+_, _*_, _-_, _^_, _≤_, _<_}
 use mathlib.Core.Bool.{Bool, true, false, cond, _&&_}
@@ -8,7 +9,7 @@ use mathlib.Core.Option.{Option, none, some}
 use native.Mathlib.Omega.{arith}
 use lib.ListN.{length}
 use lib.Dec.{leb, ltb, eqb}
-use borrow.Author.Tests.{ltb-false}
+use borrow.Author.Tests.{ltb-true, ltb-false}
 use Rattle.multiset.specs.Multisets.{Below, copies, slotOf, largest, added, removed}
 use Rattle.multiset.proofs.MultisetLaws.{copies-le-length}
 use Rattle.crumbmap.specs.Layouts.{layout1, fronts, backyards}
@@ -28,6 +29,8 @@ use Rattle.machine.specs.Calls.{freshOf, insertOf, deleteOf, askOf, countOf, pa
 use Rattle.machine.proofs.ImageLaws.{sizeOf-some}
 use Rattle.answers.specs.Pairs.{answerValue}
 use Rattle.machine.specs.Rows.{Row, rowOf}
+use Rattle.machine.specs.OccupancyPages.{pageLines, pageBytes, blankLine, lineAt, linesFrom, printFrom, occupancyOf}
+use Rattle.machine.proofs.OccupancyLaws.{line-members}
 use Rattle.machine.proofs.RowLaws.{row-total, row-refused}
 use Rattle.machine.proofs.RoomLaws.{frontAt-room, backAt-room, backyard-room, run-count, slotOf-lt}
 use Rattle.capi.specs.Packing.{Within, taken, barred, nothing, placeWord, askWord, countWord, runWord, rowWord}
@@ -215,6 +218,27 @@ page-fits img s room =
     within-then (runFrom layout1 B (8 * B - s) s room img) _ (run-sound B (8 * B - s) s room img l (omega arith)) (λ r g.
     let c = run-count layout1 B (8 * B - s) s room img r g in
     within-cond (eqb (r .next) s && ltb s (8 * B)) _ _ (λ _. bar 7 0 (omega arith) (omega arith)) (λ _. run-fits r (omega (arith, c .0, c .1))))))
+
+-- ---- occupancy pages
+
+lines-sound : (B n f : ℕ) (img : List ℕ) → B ≤ 65536 → Within nothing cap (linesFrom layout1 B n f img)
+unfolding linesFrom
+lines-sound B zero f img l = pass _
+lines-sound B (suc n) f img l =
+    within-then (cond (ltb f (fronts B)) (lineAt layout1 B f img) (accepted (blankLine layout1))) _
+    (within-cond (ltb f (fronts B)) _ _
+    (λ e. rw (line-members layout1 B f img)
+    (within-then (membersAt layout1 B f img) _ (membersAt-sound B f img l (ltb-true f (fronts B) e)) (λ xs g. pass _)))
+    (λ _. pass _))
+    (λ t e. within-then (linesFrom layout1 B n (suc f) img) _ (lines-sound B n (suc f) img l) (λ ts g. pass _))
+
+pub occupancy-fits : (img : List ℕ) (p room : ℕ) → Within nothing cap (occupancyOf layout1 img p room)
+unfolding occupancyOf printFrom
+occupancy-fits img p room =
+    sized-fits img _ (λ B q l.
+    within-cond (leb (fronts B) (pageLines * p)) _ _ (λ _. bar 6 0 (omega arith) (omega arith)) (λ _.
+    within-then (linesFrom layout1 B pageLines (pageLines * p) img) _ (lines-sound B pageLines (pageLines * p) img l) (λ text e.
+    within-cond (ltb room (pageBytes layout1)) _ _ (λ _. bar 7 0 (omega arith) (omega arith)) (λ _. pass text))))
 
 -- ---- check, fresh, merge
 

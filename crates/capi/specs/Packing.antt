@@ -26,7 +26,7 @@ pub record Packs (s : Said) : Type 0 where
 
 -- ---- values
 
--- fresh, check and merge: 0
+-- fresh, check, merge and an occupancy page: 0
 abbrev pub nothing : {A : Type 0} → A → ℕ
 nothing a = 0
 

@@ -17,12 +17,14 @@ use breadcrumb::delete;
 use breadcrumb::fresh;
 use breadcrumb::insert;
 use breadcrumb::merge;
+use breadcrumb::occupancy;
 use breadcrumb::page;
 ghost use mathlib.Core.Path.{_≡_};
 ghost use lib.ListN.{length};
 ghost use Rattle.crumbmap.specs.Layouts.{layout1};
 ghost use Rattle.machine.specs.Calls.{freshOf, insertOf, deleteOf, askOf, countOf, pageOf, checkOf, mergeOf, written, imageOf, outputOf, targetOf};
 ghost use Rattle.machine.specs.Rows.{rowOf};
+ghost use Rattle.machine.specs.OccupancyPages.{occupancyOf, printed};
 ghost use Rattle.answers.specs.Pairs.{answerValue};
 ghost use Rattle.answers.specs.Rows.{hashes, entriesOf};
 ghost use Rattle.capi.specs.Packing as P;
@@ -94,6 +96,15 @@ pub extern "C" fn bcf_page(image: &[u8], start: u64, out: &mut [u64]) -> u64
     ensures { λ r. ⌜ now (out .exit) ≡ outputOf (pageOf layout1 (now (image .entry)) start (length (now (out .entry)))) (now (out .entry)) ⌝ }
 {
     packed(paged(page(image, start as usize, out)))
+}
+
+// The occupancy of 24 front buckets as text.
+#[no_mangle]
+pub extern "C" fn bcf_occupancy(image: &[u8], page: u64, out: &mut [u8]) -> u64
+    ensures { λ r. ⌜ r ≡ P.packed P.nothing (occupancyOf layout1 (now (image .entry)) page (length (now (out .entry)))) ⌝ }
+    ensures { λ r. ⌜ now (out .exit) ≡ printed (occupancyOf layout1 (now (image .entry)) page (length (now (out .entry)))) (now (out .entry)) ⌝ }
+{
+    packed(done(occupancy(image, page, out)))
 }
 
 // Two images into a third.

@@ -23,7 +23,7 @@ pub fn packed(said: Said) -> u64
     said.number * 72057594037927936 + said.value
 }
 
-// What a fresh, a check or a merge gives.
+// What a fresh, a check, a merge or an occupancy page gives.
 pub(crate) fn done(given: Outcome) -> Said
     ensures { λ s. ⌜ s ≡ saidOf nothing (outcomeOf given) ⌝ }
 {

@@ -9,10 +9,12 @@ use capi::bcf_delete;
 use capi::bcf_fresh;
 use capi::bcf_insert;
 use capi::bcf_merge;
+use capi::bcf_occupancy;
 use capi::bcf_page;
 use stored::images::poke;
 use stored::sum::of_image;
 use stored::sum::of_merge;
+use stored::sum::of_output;
 use stored::sum::of_page;
 
 // A line on one image.
@@ -26,6 +28,10 @@ pub fn within(operation: u64, image: &mut [u8], p: u64, q: usize, out: &mut [u64
     }
     if operation == 11 {
         return row(image, p, q);
+    }
+    if operation == 12 {
+        let mut bytes = [7u8; 1040];
+        return occupancy(image, p, &mut bytes, q);
     }
     call(operation, image, p)
 }
@@ -69,6 +75,16 @@ fn fill(out: &mut [u64]) {
         out[i] = u64::MAX - (i as u64);
         i += 1;
     }
+}
+
+// An occupancy page into the first q bytes of `out`, if there are so many.
+fn occupancy(image: &[u8], number: u64, out: &mut [u8], q: usize) -> Outcome {
+    if out.len() < q {
+        return Outcome::Nothing;
+    }
+    let out = &mut out[0..q];
+    let answer = bcf_occupancy(image, number, out);
+    Outcome::Said(12, answer, of_output(image, out))
 }
 
 // Two images into a third.

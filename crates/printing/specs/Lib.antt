@@ -1,0 +1,2 @@
+-- The steps of an occupancy page.
+pub mod Steps

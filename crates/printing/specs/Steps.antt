@@ -1,0 +1,2 @@
+-- Inner steps: the members that a page's buckets have.
+pub mod Tallies
