@@ -8,7 +8,8 @@ use crate::fingerprint::Fingerprint;
 use crate::prepare::hash_of;
 use crate::random::Random;
 use crate::shape::{Shape, MINIS, TAGS};
-use crate::stored::{output_before, Line};
+use crate::stored::Line;
+use crate::vectors::output_before;
 use std::fmt;
 
 /// How many hashes of a history are remembered.

@@ -519,6 +519,7 @@ mod tests {
         assert_eq!(refusal(&image[1..], &descending), (1, None));
         assert_eq!(refusal(&image[1..], &[]), (1, None));
     }
+
     /// The lines of an accepted page.
     fn lines(image: &[u8], page: u64) -> Vec<String> {
         let mut out = [7; OCCUPANCY_BYTES + 3];

@@ -102,10 +102,10 @@ fn largest() -> Vec<u8> {
     let mut image = fresh_image(shape.b);
     let mut random = Random::new(3);
     let slots = shape.fronts() as usize * FRONT_SLOTS + shape.backyards() as usize * BACKYARD_SLOTS;
-    let mut free = slots * 9 / 10;
-    while free > 0 {
-        // A full bucket lets a hash go.
-        free -= calls::insert(&mut image, random.bits()).is_ok() as usize;
+    let mut left = slots * 9 / 10;
+    while left > 0 {
+        // A hash that is refused as full is let go.
+        left -= calls::insert(&mut image, random.bits()).is_ok() as usize;
     }
     image
 }

@@ -67,7 +67,7 @@ pub enum Line {
         hash: u64,
         step: Step,
     },
-    /// The output has `length` bytes, byte i holding i mod 251 before the call.
+    /// The output has `length` bytes, each holding 7 before the call.
     Occupancy {
         x: usize,
         page: u64,
@@ -229,7 +229,7 @@ impl Images {
                 answer
             }
             Line::Occupancy { x, page, length } => {
-                self.out = output_before(length);
+                self.out = vec![7; length];
                 catalogue.occupancy(&self.image[x], page, &mut self.out)
             }
             _ => panic!("a call without output"),
@@ -255,11 +255,6 @@ impl Images {
         let (operation, ..) = line.fields();
         format!("{operation:02X}{answer:016X}{:016X}\n", self.checksum(line))
     }
-}
-
-/// The output of an occupancy page before the call.
-pub fn output_before(length: usize) -> Vec<u8> {
-    (0..length).map(|i| (i % 251) as u8).collect()
 }
 
 /// An entry of a row before the call: all but the hash is 7, so that what is kept shows.
@@ -393,9 +388,7 @@ mod tests {
         let (answer, out) = page(0, 1010);
         assert_eq!((answer, out.len()), (0, 1010));
         assert_eq!(out[..13], *b"     0  0  0 ");
-        // 1,008 = 4 × 251 + 4.
-        assert_eq!(out[1006..], [b' ', b'\n', 4, 5]);
-        assert_eq!(page(1, 253), (6 << 56, output_before(253)));
-        assert_eq!(output_before(253)[250..], [250, 0, 1]);
+        assert_eq!(out[1006..], [b' ', b'\n', 7, 7]);
+        assert_eq!(page(1, 253), (6 << 56, vec![7; 253]));
     }
 }

@@ -21,7 +21,6 @@
 
 use crate::catalogue::{Catalogue, Entry};
 use crate::sha256::sha256;
-use crate::stored::output_before;
 use std::collections::HashMap;
 
 type Images = HashMap<String, Vec<u8>>;
@@ -177,6 +176,11 @@ fn with_output(
     let mut out = output_before(length as usize);
     let answer = catalogue.occupancy(image, from, &mut out)?;
     Some((text(answer, nothing), out))
+}
+
+/// The output of an occupancy page before the call.
+pub fn output_before(length: usize) -> Vec<u8> {
+    (0..length).map(|i| (i % 251) as u8).collect()
 }
 
 /// Replays a whole text.
