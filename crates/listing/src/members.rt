@@ -54,6 +54,16 @@ pub fn count_members(image: &[u8], size: usize, front: Front) -> MemberCount
     }
 }
 
+// How many First(f) and Second(f) have together.
+pub fn count_overflow(image: &[u8], size: usize, front: Front) -> usize
+    requires { ⌜ BackyardRead layout1 size (front .0) (now image) ⌝ }
+    ensures { λ r. ⌜ r ≡ length (overflowIn layout1 size (front .0) (now (image .entry))) ⌝ }
+{
+    let first = count_bag(image, size, first_of(front, size));
+    let second = count_bag(image, size, second_of(front, size));
+    first + second
+}
+
 // The keys that carry a crumb in a backyard bucket that was read: how many.
 fn count_bag(image: &[u8], size: usize, way: Overflow) -> usize
     requires { ⌜ BagRead layout1 size way (now image) ⌝ }

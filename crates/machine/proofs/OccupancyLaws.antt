@@ -1,6 +1,6 @@
 -- The occupancy page, for any layout: how long its lines are, and what follows from how many members each front bucket has.
--- Main results: `length-aligned`, `length-line`, `length-lineOf`, `page-length`; `lines-next` and `lines-alike`, one line more and another count;
--- `line-members`, `lines-counted`, `lines-refused`, a page by its buckets' members; `page-counted`, the page of a good image.
+-- Main results: `length-aligned`, `length-line`, `length-lineOf`, `page-length`; `lines-next`, one line more; `lines-at`, line i of a page;
+-- `line-members` and `lines-counted`, a page by its buckets' members; `page-counted`, the page of a good image.
 use mathlib.Core.Path.{_≡_, refl, sym, _∙_}
 use Prim.Native.Nat.{ℕ, zero, suc, _+_, _*_, _-_, _/_, _%_, _≤_, _<_, min}
 use mathlib.Core.Bool.{Bool, true, false, cond}
@@ -10,7 +10,7 @@ use native.Mathlib.Nat.{suc-mul}
 use lib.ListN.{length, take, drop, replicate, length-append, length-replicate}
 use lib.Seq.{take-at, drop-at, drop-drop}
 use lib.Dec.{leb, ltb}
-use borrow.Author.Tests.{ltb-true, ltb-false, lt-ltb}
+use borrow.Author.Tests.{ltb-true, ltb-false}
 use Rattle.multiset.specs.Multisets.{sum}
 use Rattle.crumbmap.specs.Layouts.{Layout, keys, fronts}
 use Rattle.crumbmap.specs.Fingerprints.{fingerprint}
@@ -90,14 +90,6 @@ module _ (L : Layout) where
           k,
         )
         (lines-at n (suc f) i (omega arith))
-
-  -- another count that gives the same lines
-  pub lines-alike : (c d : ℕ → ℕ) (F G n f : ℕ) → ((g : ℕ) → f ≤ g → g < f + n → lineOf L c F g ≡ lineOf L d G g)
-      → linesOf L c F n f ≡ linesOf L d G n f
-  unfolding linesOf
-  lines-alike c d F G zero f same = refl
-  lines-alike c d F G (suc n) f same =
-      rw (same f (omega arith) (omega arith), lines-alike c d F G n (suc f) (λ g l u. same g (omega arith) (omega arith)))
 
 -- ---- a bucket's line by its members
 
@@ -204,20 +196,6 @@ module _ (L : Layout) (B : ℕ) (img : List ℕ) (count : ℕ → ℕ) where
   lines-counted zero f h = refl
   lines-counted (suc n) f h =
       rw (line-counted f (h f (omega arith) (omega arith)), lines-counted n (suc f) (λ g l u. h g (omega arith) (omega arith)))
-
-  -- an unsound bucket behind n others of a page
-  pub lines-refused : (n m f i : ℕ) → n < m → f + n < fronts B → CountsAll n f → membersAt L B (f + n) img ≡ refused 3 i → linesFrom L B m f img ≡ refused 3 i
-  unfolding linesFrom
-  lines-refused n zero f i l r h e = absurd (omega arith)
-  lines-refused zero (suc m) f i l r h e =
-      let k : f + 0 ≡ f = omega arith in
-      rw (lt-ltb f (fronts B) (omega arith), line-members L B f img, rw k at e)
-  lines-refused (suc n) (suc m) f i l r h e =
-      let k : f + suc n ≡ suc f + n = omega arith in
-      rw (
-        line-counted f (h f (omega arith) (omega arith)),
-        lines-refused n m (suc f) i (omega arith) (omega arith) (λ g l u. h g (omega arith) (omega arith)) (rw k at e),
-      )
 
 -- ---- a good image
 

@@ -74,27 +74,27 @@ module _ (L : Layout) (B : ℕ) (img : List ℕ) where
 -- ---- a run that is measured
 
 -- the run from s is measured up to bucket f, and `left` of its room remains
-pub record Measured (L : Layout) (B s room : ℕ) (img : List ℕ) (f left : ℕ) : Type 0 where
+pub record Measured (L : Layout) (B s end room : ℕ) (img : List ℕ) (f left : ℕ) : Type 0 where
   pub from : s ≤ f
-  pub upto : f ≤ fronts B
+  pub upto : f ≤ end
   pub sound : (g : ℕ) → s ≤ g → g < f → MembersRead L B g img
   pub remains : left + length (entriesIn L B (f - s) s img) ≡ room
-  pub rest : runFrom L B (fronts B - s) s room img ≡ prepended (entriesIn L B (f - s) s img) (runFrom L B (fronts B - f) f left img)
+  pub rest : runFrom L B (end - s) s room img ≡ prepended (entriesIn L B (f - s) s img) (runFrom L B (end - f) f left img)
 
-pub measured-start : (L : Layout) (B s room : ℕ) (img : List ℕ) → s ≤ fronts B → Measured L B s room img s room
+pub measured-start : (L : Layout) (B s end room : ℕ) (img : List ℕ) → s ≤ end → Measured L B s end room img s room
 unfolding entriesIn
-measured-start L B s room img h =
+measured-start L B s end room img h =
     let e : s - s ≡ 0 = omega arith in
     record {
       from = omega arith;
       upto = h;
       sound = λ g l u. absurd (omega arith);
       remains = rw e (omega arith);
-      rest = rw e (sym (prepended-nil (runFrom L B (fronts B - s) s room img)));
+      rest = rw e (sym (prepended-nil (runFrom L B (end - s) s room img)));
     }
 
-module _ {L : Layout} {B s room : ℕ} {img : List ℕ} {f left : ℕ} (m : Measured L B s room img f left) where
-  stops : Whole B img → runFrom L B (fronts B - f) f left img ≡ stopped f → Ran L B s room img f
+module _ {L : Layout} {B s end room : ℕ} {img : List ℕ} {f left : ℕ} (m : Measured L B s end room img f left) where
+  stops : Whole B img → runFrom L B (end - f) f left img ≡ stopped f → Ran L B s end room img f
   stops i e = record {
     image = i;
     from = m .from;
@@ -104,22 +104,22 @@ module _ {L : Layout} {B s room : ℕ} {img : List ℕ} {f left : ℕ} (m : Meas
     runs = m .rest ∙ rw (e, append-nil);
   }
 
-  pub measured-end : Whole B img → fronts B ≤ f → Ran L B s room img f
+  pub measured-end : Whole B img → end ≤ f → Ran L B s end room img f
   unfolding runFrom
-  measured-end i h = let e : fronts B - f ≡ 0 = omega arith in stops i (rw e)
+  measured-end i h = let e : end - f ≡ 0 = omega arith in stops i (rw e)
 
-  module _ (h : f < fronts B) where
-    more : fronts B - f ≡ suc (fronts B - suc f)
+  module _ (h : f < end) where
+    more : end - f ≡ suc (end - suc f)
     more = omega arith
 
-    pub measured-stop : Whole B img → MembersRead L B f img → left < length (membersIn L B f img) → Ran L B s room img f
-    measured-stop i r l = stops i (rw more (run-stop L B img (fronts B - suc f) f left r l))
+    pub measured-stop : Whole B img → MembersRead L B f img → left < length (membersIn L B f img) → Ran L B s end room img f
+    measured-stop i r l = stops i (rw more (run-stop L B img (end - suc f) f left r l))
 
-    pub measured-unsound : (i : ℕ) → membersAt L B f img ≡ refused 3 i → runFrom L B (fronts B - s) s room img ≡ refused 3 i
-    measured-unsound i e = m .rest ∙ rw (more, run-unsound L B img (fronts B - suc f) f left i e)
+    pub measured-unsound : (i : ℕ) → membersAt L B f img ≡ refused 3 i → runFrom L B (end - s) s room img ≡ refused 3 i
+    measured-unsound i e = m .rest ∙ rw (more, run-unsound L B img (end - suc f) f left i e)
 
     pub measured-on : MembersRead L B f img → length (membersIn L B f img) ≤ left
-        → Measured L B s room img (f + 1) (left - length (membersIn L B f img))
+        → Measured L B s end room img (f + 1) (left - length (membersIn L B f img))
     measured-on r l =
         let e = entries-next L B img s f (m .from) in
         let gs = map (fingerprint L f) (membersIn L B f img) in
@@ -130,8 +130,8 @@ module _ {L : Layout} {B s room : ℕ} {img : List ℕ} {f left : ℕ} (m : Meas
           sound = λ g a u. go g a u (ltb g f) refl;
           remains = rw (e, length-append (entriesIn L B (f - s) s img) gs, k) (omega (arith, m .remains));
           rest =
-              m .rest ∙ rw (more, run-on L B img (fronts B - suc f) f left r l)
-              (prepended-append (entriesIn L B (f - s) s img) gs (runFrom L B (fronts B - suc f) (suc f) (left - length (membersIn L B f img)) img)
+              m .rest ∙ rw (more, run-on L B img (end - suc f) f left r l)
+              (prepended-append (entriesIn L B (f - s) s img) gs (runFrom L B (end - suc f) (suc f) (left - length (membersIn L B f img)) img)
               ∙ rw (e, add-one f));
         }
       where
@@ -140,11 +140,11 @@ module _ {L : Layout} {B s room : ℕ} {img : List ℕ} {f left : ℕ} (m : Meas
         go g a u false e = let k : g ≡ f = omega (arith, ltb-false g f e) in rw k r
 
 -- what measuring said
-module _ (L : Layout) (B s room : ℕ) (img : List ℕ) {r : RunEnd} (said : EndSays L B s room img r) where
-  pub end-next : {next : ℕ} → r ≡ E.Next next → Ran L B s room img next
+module _ (L : Layout) (B s end room : ℕ) (img : List ℕ) {r : RunEnd} (said : EndSays L B s end room img r) where
+  pub end-next : {next : ℕ} → r ≡ E.Next next → Ran L B s end room img next
   end-next e = rw e at said
 
-  pub end-unsound : {i : ℕ} → r ≡ E.Unsound i → runFrom L B (fronts B - s) s room img ≡ refused 3 i
+  pub end-unsound : {i : ℕ} → r ≡ E.Unsound i → runFrom L B (end - s) s room img ≡ refused 3 i
   end-unsound e = rw e at said
 
 -- ---- a measured run that is written
@@ -163,9 +163,9 @@ written-start L B s next img old h =
     let e : s - s ≡ 0 = omega arith in
     record { from = omega arith; upto = h; few = omega arith; same = refl; entries = rw e (record { many = refl; stands = refl }) }
 
-run-room : {L : Layout} {B s room next : ℕ} {img : List ℕ} → Ran L B s room img next → (f : ℕ) → s ≤ f → f < next
+run-room : {L : Layout} {B s end room next : ℕ} {img : List ℕ} → Ran L B s end room img next → (f : ℕ) → s ≤ f → f < next
     → length (entriesIn L B (f - s) s img) + length (membersIn L B f img) ≤ room
-run-room {L} {B} {s} {room} {next} {img} r f h k =
+run-room {L} {B} {s} {end} {room} {next} {img} r f h k =
     let gs = map (fingerprint L f) (membersIn L B f img) in
     omega (
       arith,
@@ -178,7 +178,7 @@ run-room {L} {B} {s} {room} {next} {img} r f h k =
     )
 
 -- its next bucket fits, and is written
-module _ {L : Layout} {B s next n f : ℕ} {img old out : List ℕ} (r : Ran L B s (length old) img next) (w : Written L B s next img old out f n)
+module _ {L : Layout} {B s end next n f : ℕ} {img old out : List ℕ} (r : Ran L B s end (length old) img next) (w : Written L B s next img old out f n)
     (k : f < next) where
   pub bucket-room : length (membersIn L B f img) ≤ length (take (length out - n) (drop n out))
   bucket-room =
@@ -217,13 +217,13 @@ module _ (L : Layout) (B s : ℕ) (img old : List ℕ) (inside : s ≤ fronts B)
   unfolding pageFrom
   page-unsound e = rw (le-ltb (fronts B) s inside, e) (record { answer = refl; bytes = refl })
 
-  pub page-no-room : {next : ℕ} → Ran L B s (length old) img next → next ≡ s → s < fronts B
+  pub page-no-room : {next : ℕ} → Ran L B s (fronts B) (length old) img next → next ≡ s → s < fronts B
       → Writes (pageFrom L B s (length old) img) old (P.Refused NoRoom) old
   unfolding pageFrom
   page-no-room {next} r e h =
       rw (le-ltb (fronts B) s inside, r .runs, eq-eqb next s e, lt-ltb s (fronts B) h) (record { answer = refl; bytes = refl })
 
-  pub page-written : {next n : ℕ} {new : List ℕ} → Ran L B s (length old) img next → eqb next s && ltb s (fronts B) ≡ false
+  pub page-written : {next n : ℕ} {new : List ℕ} → Ran L B s (fronts B) (length old) img next → eqb next s && ltb s (fronts B) ≡ false
       → Listed (entriesIn L B (next - s) s img) old n new → Writes (pageFrom L B s (length old) img) old (P.Accepted n next) new
   unfolding pageFrom
   page-written {next} r h l =

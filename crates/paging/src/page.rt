@@ -44,11 +44,12 @@ fn page_from(image: &[u8], size: usize, start: usize, out: &mut [u64]) -> PageRe
     requires { ⌜ Whole size (now image) × (start ≤ fronts size) ⌝ }
     ensures { λ r. ⌜ Writes (pageFrom layout1 size start (length (now (out .entry))) (now (image .entry))) (now (out .entry)) r (now (out .exit)) ⌝ }
 {
-    match measure(image, size, start, out.len()) {
+    let end = 8 * size;
+    match measure(image, size, start, end, out.len()) {
         RunEnd::Unsound(table) => PageResult::Refused(Refusal::Unsound(table)),
         RunEnd::Next(next) => {
             if next == start {
-                if start < 8 * size {
+                if start < end {
                     return PageResult::Refused(Refusal::NoRoom);
                 }
             }
@@ -57,14 +58,14 @@ fn page_from(image: &[u8], size: usize, start: usize, out: &mut [u64]) -> PageRe
     }
 }
 
-// How far the run goes: buckets are read and counted "until one does not fit".
-fn measure(image: &[u8], size: usize, start: usize, room: usize) -> RunEnd
-    requires { ⌜ Whole size (now image) × (start ≤ fronts size) ⌝ }
-    ensures { λ r. ⌜ EndSays layout1 size start room (now (image .entry)) r ⌝ }
+// How far the run goes, up to front bucket `end`: buckets are read and counted "until one does not fit".
+pub fn measure(image: &[u8], size: usize, start: usize, end: usize, room: usize) -> RunEnd
+    requires { ⌜ Whole size (now image) × (start ≤ end) × (end ≤ fronts size) ⌝ }
+    ensures { λ r. ⌜ EndSays layout1 size start end room (now (image .entry)) r ⌝ }
 {
     let mut f = start;
     let mut left = room;
-    while f < 8 * size {
+    while f < end {
         match count_members(image, size, Front(f)) {
             MemberCount::Unsound(table) => return RunEnd::Unsound(table),
             MemberCount::Members(n) => {
@@ -81,7 +82,7 @@ fn measure(image: &[u8], size: usize, start: usize, room: usize) -> RunEnd
 
 // The buckets of a measured run, one after the other, into the start of `out`; how many members.
 fn write_run(image: &[u8], size: usize, start: usize, next: usize, out: &mut [u64]) -> usize
-    requires { ⌜ Ran layout1 size start (length (now out)) (now image) next ⌝ }
+    requires { ⌜ Ran layout1 size start (fronts size) (length (now out)) (now image) next ⌝ }
     ensures { λ r. ⌜ Listed (entriesIn layout1 size (next - start) start (now (image .entry))) (now (out .entry)) r (now (out .exit)) ⌝ }
 {
     let mut f = start;

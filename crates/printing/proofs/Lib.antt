@@ -1,3 +1,3 @@
 -- Lines as they are written, and the turns of an occupancy page.
 pub mod LineLaws
-pub mod TallyLaws
+pub mod PageReads

@@ -1,2 +1,2 @@
--- Inner steps: the members that a page's buckets have.
-pub mod Tallies
+-- Inner steps: a page's buckets, as they are read and then counted.
+pub mod Counts

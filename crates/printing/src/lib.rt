@@ -13,9 +13,3 @@ pub const LINES: usize = 24;
 pub const LINE_BYTES: usize = 14 + FRONT_SLOTS;
 
 pub const PAGE_BYTES: usize = LINES * LINE_BYTES;
-
-// Whether the buckets of a page are sound, or the table number of the first that is not.
-pub enum Tallied {
-    Sound,
-    Unsound(usize),
-}

@@ -1,11 +1,11 @@
 -- `paging::page::measure` meets its contract. The loop's invariant: the run is measured up to bucket f (`Measured`). The measure is the buckets
 -- that are left.
 use mathlib.Core.Path.{_≡_}
-use Prim.Native.Nat.{_*_, _-_}
+use Prim.Native.Nat.{_-_}
 use native.Mathlib.Omega.{arith}
 use lib.ListN.{length}
 use borrow.Author.Needs.{needs}
-use Rattle.crumbmap.specs.Layouts.{layout1, fronts}
+use Rattle.crumbmap.specs.Layouts.{layout1}
 use Rattle.listing.specs.Steps.Listings.{membersIn, MembersRead}
 use Rattle.listing.proofs.ListingLaws.{count-members, count-refused}
 use Rattle.paging.proofs.PageSteps.{Measured, measured-start, measured-on, measured-stop, measured-end, measured-unsound}
@@ -13,10 +13,10 @@ use Rattle.paging.proofs.page.measure.Statement.{statement}
 use Rattle.paging.proofs.page.measure.Tie as tie
 
 abbrev Inv-loop : tie.InvT-loop
-Inv-loop image size start room f₀ left₀ f left = Measured layout1 size start room image f left
+Inv-loop image size start end room f₀ left₀ f left = Measured layout1 size start end room image f left
 
 abbrev μ-loop : tie.MeasureT-loop
-μ-loop image size start room f₀ left₀ f left = 8 * size - f
+μ-loop image size start end room f₀ left₀ f left = end - f
 
 -- the points of the walk: bucket f is sound, or not; it is read and counted; its turn; the start
 abbrev sound : tie.After-known-told2 Inv-loop μ-loop → tie.After-count-members Inv-loop μ-loop
@@ -41,17 +41,12 @@ counted c =
 loop-holds : tie.Need-loop-holds Inv-loop μ-loop
 loop-holds c =
     let s = c .before in
-    measured-start layout1 (s .args .size) (s .args .start) (s .args .room) (s .args .image .now) (s .pre .1)
-
-mul-loop : tie.Need-mul-loop Inv-loop μ-loop
-mul-loop c = omega (arith, start c .pre .0 .small)
+    measured-start layout1 (s .args .size) (s .args .start) (s .args .end) (s .args .room) (s .args .image .now) (s .pre .1)
 
 count-members-requires : tie.Need-count-members-requires Inv-loop μ-loop
-unfolding fronts
-count-members-requires c κs = record { whole = start (c .before) .pre .0; front = omega arith }
+count-members-requires c κs = let p = start (c .before) .pre in record { whole = p .0; front = omega (arith, p .2) }
 
 returns : tie.Need-returns Inv-loop μ-loop
-unfolding fronts
 returns c =
     let t = turn (unsound c) in
     let a = start t .args in
@@ -59,21 +54,18 @@ returns c =
     (count-refused layout1 (a .size) (t .loop .f) (a .image .now) (unsound c .count-members .ensures) (c .before .table .given .1))
 
 returns-2 : tie.Need-returns-2 Inv-loop μ-loop
-unfolding fronts
 returns-2 c =
     let t = turn (sound (c .before)) in
     let r = counted (c .before) in
     measured-stop (t .loop .inv) (omega arith) (start t .pre .0) (r .0) (omega (arith, r .1))
 
 loop-again : tie.Need-loop-again Inv-loop μ-loop
-unfolding fronts
 loop-again c =
     let t = turn (sound (c .before)) in
     let r = counted (c .before) in
     rw (r .1) at (measured-on (t .loop .inv) (omega arith) (r .0) (omega (arith, r .1)))
 
 returns-3 : tie.Need-returns-3 Inv-loop μ-loop
-unfolding fronts
 returns-3 c = measured-end (c .before .loop .inv) (start (c .before) .pre .0) (omega arith)
 
 pub measure-spec : {M : Type 1} → statement M
@@ -83,7 +75,6 @@ measure-spec =
     Inv-loop
     μ-loop
     loop-holds
-    mul-loop
     count-members-requires
     (λ c. search needs)
     returns

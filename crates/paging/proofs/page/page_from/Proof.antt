@@ -24,10 +24,15 @@ start c = c .before .before .before
 
 -- the run that was measured
 ran : (c : tie.After-known-told2) → let a = start (measured c) .args in
-    Ran layout1 (a .size) (a .start) (length (a .out .now)) (a .image .now) (c .before .next .given .0 .0)
+    Ran layout1 (a .size) (a .start) (fronts (a .size)) (length (a .out .now)) (a .image .now) (c .before .next .given .0 .0)
+unfolding fronts
 ran c =
     let a = start (measured c) .args in
-    end-next layout1 (a .size) (a .start) (length (a .out .now)) (a .image .now) (measured c .measure .ensures) (c .before .next .given .1)
+    end-next layout1 (a .size) (a .start) (fronts (a .size)) (length (a .out .now)) (a .image .now) (measured c .measure .ensures) (c .before .next .given .1)
+
+measure-requires : tie.Need-measure-requires
+unfolding fronts
+measure-requires c κs = let p = c .before .before .pre in (p .0, p .1, omega arith)
 
 returns : tie.Need-returns
 unfolding fronts
@@ -41,11 +46,12 @@ write-run-requires : tie.Need-write-run-requires
 write-run-requires c κs = ran (c .before .before)
 
 returns-2 : tie.Need-returns-2
+unfolding fronts
 returns-2 c =
     let m = c .before .before .before in
     let s = start m in
     page-unsound layout1 (s .args .size) (s .args .start) (s .args .image .now) (s .args .out .now) (s .pre .1)
-    (end-unsound layout1 (s .args .size) (s .args .start) (length (s .args .out .now)) (s .args .image .now) (m .measure .ensures)
+    (end-unsound layout1 (s .args .size) (s .args .start) (fronts (s .args .size)) (length (s .args .out .now)) (s .args .image .now) (m .measure .ensures)
     (c .before .table .given .1))
 
 returns-3 : tie.Need-returns-3
@@ -63,8 +69,8 @@ pub page-from-spec : {M : Type 1} → statement M
 page-from-spec =
     tie.close
     (tie.spec
-    (λ c κs. search needs)
     (λ c. search needs)
+    measure-requires
     (λ c. search needs)
     (λ c. search needs)
     returns
