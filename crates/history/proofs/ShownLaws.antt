@@ -1,14 +1,14 @@
 -- The numbers of an occupancy page's line, read back. Main results: `aligned-shown`, `line-shown`.
-use mathlib.Core.Path.{_≡_, refl, sym, _∙_, ap}
+use mathlib.Core.Path.{_≡_, refl}
 use Prim.Native.Nat.{ℕ, zero, suc, _+_, _*_, _-_, _/_, _%_, _^_, _<_, min}
 use mathlib.Core.Bool.{Bool, true, false, cond}
 use mathlib.Core.List.{List, [], _∷_, _++_, append-assoc}
 use native.Mathlib.Omega.{arith}
 use native.Mathlib.Nat.{pow-suc}
-use lib.ListN.{length, take, drop, replicate}
+use lib.ListN.{take, drop, replicate}
 use lib.Seq.{take-at, drop-at, drop-drop}
 use lib.Dec.{ltb, eqb}
-use borrow.Author.Tests.{ltb-true, ltb-false, ne-eqb}
+use borrow.Author.Tests.{ltb-true, ne-eqb}
 use Rattle.crumbmap.specs.Layouts.{Layout}
 use Rattle.machine.specs.OccupancyPages.{aligned, column, bar, line, lineWith}
 use Rattle.machine.proofs.OccupancyLaws.{length-aligned, length-column}

@@ -1,7 +1,7 @@
 -- Lines of an occupancy page, computed beside the text that they print; and how long they are with 28 front slots and with 51.
 use mathlib.Core.Path.{_≡_, refl}
 use Prim.Native.Nat.{ℕ}
-use mathlib.Core.List.{List, [], _∷_, _++_}
+use mathlib.Core.List.{[], _∷_, _++_}
 use lib.ListN.{replicate}
 use Rattle.crumbmap.specs.Layouts.{Layout, layout1}
 use Rattle.machine.specs.OccupancyPages.{aligned, column, lineBytes, pageBytes, bar, line}

@@ -1,7 +1,7 @@
 -- Lines as they are written: the columns of a number from the last to the first, and pieces one behind the other.
 -- Main results: `aligned-more`, `aligned-last`, `blanks-before`, the turns of a number; `stands-next`, `stands-piece`, `stands-part`,
 -- `stands-set`, one piece more; `stands-all`, an output that is covered.
-use mathlib.Core.Path.{_≡_, refl, sym, _∙_}
+use mathlib.Core.Path.{_≡_, refl, _∙_}
 use Prim.Native.Nat.{ℕ, zero, suc, _+_, _/_, _%_, _-_, _≤_, _<_}
 use mathlib.Core.List.{List, [], _∷_, _++_, append-assoc}
 use native.Mathlib.Omega.{arith}

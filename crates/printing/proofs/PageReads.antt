@@ -1,10 +1,10 @@
 -- A page's buckets, for any layout: read as a run that has room for all of them, then printed line by line.
 -- Main results: `run-refused` and `ran-lines`, what reading them says of the page; `bucket-few`, `bucket-full`, `line-here`, `line-past`, the line of a
 -- bucket that was read; `lines-more`, one line more; `page-refused`, `page-short`, `page-printed`, the endings of a page.
-use mathlib.Core.Path.{_≡_, refl, sym, _∙_, ap}
+use mathlib.Core.Path.{_≡_, refl, ap}
 use Prim.Native.Nat.{ℕ, zero, suc, _+_, _*_, _-_, _≤_, _<_, min}
-use mathlib.Core.Bool.{Bool, true, false, cond}
-use mathlib.Core.List.{List, _++_, map}
+use mathlib.Core.Bool.{Bool, true, false}
+use mathlib.Core.List.{List, map}
 use native.Mathlib.Nat.{suc-mul, mul-le-mul-right}
 use native.Mathlib.Numerals.{add-one}
 use native.Mathlib.Omega.{arith}
@@ -17,7 +17,7 @@ use Rattle.crumbmap.specs.Fingerprints.{fingerprint}
 use Rattle.machine.specs.Results.{Result, accepted, refused}
 use Rattle.machine.specs.Images.{inFront}
 use Rattle.machine.specs.Machine.{membersAt, overflowIn}
-use Rattle.machine.specs.Pages.{Run, stopped, prepended, runFrom}
+use Rattle.machine.specs.Pages.{Run, prepended, runFrom}
 use Rattle.machine.specs.OccupancyPages.{pageLines, lineBytes, pageBytes, line, blankLine, linesFrom, printFrom, lineWith, lineOf, linesOf}
 use Rattle.machine.proofs.AcceptedLaws.{same-answer, never-refused, andThen-accepted}
 use Rattle.machine.proofs.BagLaws.{length-addedAll}

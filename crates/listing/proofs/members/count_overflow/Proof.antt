@@ -1,5 +1,5 @@
 -- `listing::members::count_overflow` meets its contract. The choices lead to First(f) and Second(f).
-use mathlib.Core.Path.{_≡_, _∙_, ap}
+use mathlib.Core.Path.{_∙_, ap}
 use mathlib.Core.Bool.{true, false}
 use native.Mathlib.Omega.{arith}
 use lib.ListN.{length}

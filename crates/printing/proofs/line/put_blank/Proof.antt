@@ -1,6 +1,6 @@
 -- `put_blank` fills all columns but the last, which is the newline.
 use native.Mathlib.Omega.{arith}
-use lib.ListN.{length, replicate, length-replicate}
+use lib.ListN.{replicate, length-replicate}
 use Prim.Native.Nat.{ℕ}
 use borrow.Author.Needs.{needs}
 use Rattle.machine.specs.OccupancyPages.{blankLine}

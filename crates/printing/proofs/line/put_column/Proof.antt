@@ -1,5 +1,4 @@
 -- `put_column` writes a number into a part of the output, and the blank behind it.
-use native.Mathlib.Omega.{arith}
 use borrow.Author.Needs.{needs}
 use Rattle.printing.proofs.LineLaws.{over-column}
 use Rattle.printing.proofs.line.put_column.Statement.{statement}
