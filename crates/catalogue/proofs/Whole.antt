@@ -1,20 +1,24 @@
 -- The contracts and the history theorem joined: demand 3 holds of the calls themselves (`demand`), and each backyard member in the image
--- that they left leads home (`calls-lead-home`), and its occupancy pages tell the ledger (`calls-tell-occupancy`).
+-- that they left leads home (`calls-lead-home`), and its occupancy pages tell the ledger
+-- (`calls-tell-occupancy`, `calls-show-occupancy`).
 use mathlib.Core.Path.{_≡_, refl, sym, _∙_, ap}
 use mathlib.Core.Logic.{_↔_}
-use Prim.Native.Nat.{ℕ, _^_, _<_, _≤_}
-use mathlib.Core.List.{List}
-use lib.ListN.{length}
+use Prim.Native.Nat.{ℕ, _+_, _*_, _^_, _<_, _≤_}
+use mathlib.Core.List.{List, _++_}
+use lib.ListN.{length, take, drop, length-drop}
+use lib.Seq.{take-append-le, drop-append-le}
 use native.Mathlib.Omega.{arith}
-use Rattle.crumbmap.specs.Layouts.{layout1}
+use Rattle.crumbmap.specs.Layouts.{layout1, fronts}
 use Rattle.crumbmap.specs.Fingerprints.{frontOf, keyOf}
 use Rattle.buckets.proofs.BucketLaws.{fits1}
 use Rattle.machine.specs.Homes.{AllLeadHome}
-use Rattle.machine.specs.Results.{accepted, number}
+use Rattle.machine.specs.Results.{Result, accepted, refused, number}
 use Rattle.machine.specs.Machine as M
 use Rattle.machine.specs.Calls.{askOf, countOf}
+use Rattle.machine.specs.OccupancyPages.{pageLines, lineBytes, occupancyOf}
 use Rattle.answers.specs.Answers.{askedOf, countedOf, placeOf, Prints, Occupancies}
 use Rattle.answers.specs.declared.Outcome.{Outcome}
+use Rattle.answers.specs.declared.Outcome.the-variants as D
 use Rattle.answers.specs.declared.Counted.{Counted}
 use Rattle.answers.specs.declared.CountResult.{CountResult}
 use Rattle.answers.specs.declared.CountResult.the-variants as T
@@ -28,11 +32,12 @@ use Rattle.history.specs.Histories.{Call, History, Fits, Started, blocks, bytes
 use Rattle.history.specs.Ledgers.{ledger, smaller}
 use Rattle.history.specs.Refusals.{due}
 use Rattle.history.specs.Demand.{Holds}
-use Rattle.history.specs.Occupancies.{pageSaid}
-use Rattle.history.proofs.Theorem.{demand3-layout1, members-lead-home, occupancy-said}
+use Rattle.history.specs.Occupancies.{filedIn, pageSaid, Shows}
+use Rattle.history.proofs.Theorem.{demand3-layout1, members-lead-home, occupancy-said, line-shows}
 use Rattle.catalogue.specs.Runs.{Performed, Happened}
 use Rattle.catalogue.specs.Delivery.{Demand, filed}
-use Rattle.machine.proofs.AcceptedLaws.{same-answer}
+use Rattle.machine.proofs.AcceptedLaws.{same-answer, never-refused}
+use Rattle.machine.proofs.OccupancyLaws.{page-length}
 use Rattle.catalogue.proofs.ToldRuns.{refusal-never, performed, kept}
 use Rattle.catalogue.proofs.ToldWalks.{walk-told}
 
@@ -99,3 +104,25 @@ calls-lead-home {h} happened = rw (left happened) (members-lead-home layout1 fit
 pub calls-tell-occupancy : {h : History} {img : List ℕ} → Happened h img → (p : ℕ) (old new : List ℕ) (r : Outcome)
     → Occupancies layout1 img p old r new → Prints (pageSaid layout1 h p (length old)) old r new
 calls-tell-occupancy {h} happened p old new r c = rw (left happened, occupancy-said layout1 fits1 h (started happened) p (length old)) at c
+
+-- what an accepted one printed
+print-accepted : (m : Result (List ℕ)) (old new : List ℕ) → Prints m old D.Accepted new
+    → (text : List ℕ) × (m ≡ accepted text) × (new ≡ text ++ drop (length text) old)
+print-accepted (accepted text) old new c = (text, refl, c .bytes)
+print-accepted (refused n i) old new c = absurd (never-refused (c .answer))
+
+-- a line that lies in a page, of an output that is longer
+line-in : (a n : ℕ) (text rest : List ℕ) → a + n ≤ length text → take n (drop a (text ++ rest)) ≡ take n (drop a text)
+line-in a n text rest h =
+    rw (drop-append-le a text rest (omega arith)) (take-append-le n (drop a text) rest (rw (length-drop a text) (omega arith)))
+
+-- whoever reads line i of an accepted one reads the number of its front bucket, the first 28 of what is filed there, and the rest
+pub calls-show-occupancy : {h : History} {img : List ℕ} → Happened h img → (p i : ℕ) (old new : List ℕ) → Occupancies layout1 img p old D.Accepted new
+    → i < pageLines → pageLines * p + i < fronts (blocks h)
+    → let f = pageLines * p + i in Shows layout1 f (filedIn layout1 (ledger layout1 h) f) (take (lineBytes layout1) (drop (i * lineBytes layout1) new))
+calls-show-occupancy {h} happened p i old new c l k =
+    let told : Occupancies layout1 (bytesAfter layout1 h) p old D.Accepted new = rw (left happened) at c in
+    let t = print-accepted (occupancyOf layout1 (bytesAfter layout1 h) p (length old)) old new told in
+    let n = page-length layout1 (bytesAfter layout1 h) p (length old) (t .0) (t .1) in
+    rw (t .2, line-in (i * lineBytes layout1) (lineBytes layout1) (t .0) (drop (length (t .0)) old) (omega arith))
+    (line-shows layout1 fits1 (omega arith) (omega arith) h (started happened) p (length old) i (t .0) l k (t .1))
