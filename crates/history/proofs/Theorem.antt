@@ -5,7 +5,6 @@
 use mathlib.Core.Path.{_≡_, sym, _∙_}
 use mathlib.Core.Logic.{_⊎_}
 use Prim.Native.Nat.{ℕ, _+_, _*_, _-_, _^_, _≤_, _<_}
-use mathlib.Core.Bool.{Bool, true, false, cond}
 use mathlib.Core.List.{List}
 use native.Mathlib.Omega.{arith}
 use lib.ListN.{length, take, drop}
@@ -14,7 +13,7 @@ use borrow.Author.Tests.{lt-ltb}
 use Rattle.crumbmap.specs.Layouts.{Layout, layout1, fronts, mostBehind, mostMembers}
 use Rattle.buckets.specs.Buckets.{Fits64}
 use Rattle.buckets.proofs.BucketLaws.{fits1}
-use Rattle.machine.specs.Results.{accepted, refused, number}
+use Rattle.machine.specs.Results.{accepted, number}
 use Rattle.machine.specs.Homes.{AllLeadHome}
 use Rattle.machine.specs.Calls.{checkOf, mergeOf}
 use Rattle.machine.specs.OccupancyPages.{pageLines, lineBytes, pageBytes, printFrom, occupancyOf, lineWith, lineOf}
@@ -26,7 +25,7 @@ use Rattle.machine.proofs.Invariant.{Good}
 use Rattle.machine.proofs.CheckLaws.{check-good}
 use Rattle.machine.proofs.HomeLaws.{all-lead-home}
 use Rattle.machine.proofs.MergeLaws.{merge-number}
-use Rattle.machine.proofs.AcceptedLaws.{same-answer, never-refused}
+use Rattle.machine.proofs.AcceptedLaws.{same-answer, test-passed}
 use Rattle.machine.proofs.OccupancyLaws.{page-counted, lines-at}
 use Rattle.machine.proofs.ImageLaws.{sizeOf-some}
 use Rattle.machine.proofs.PageLaws.{members-good, bucket-length}
@@ -51,12 +50,6 @@ pub demand3-layout1 : Demand3 layout1
 demand3-layout1 = demand3 layout1 fits1
 
 -- ---- beside it
-
--- the text of a page that is accepted
-page-text : (past short : Bool) (t : List ℕ) {text : List ℕ} → cond past (refused 6 0) (cond short (refused 7 0) (accepted t)) ≡ accepted text → t ≡ text
-page-text true short t e = absurd (never-refused (sym e))
-page-text false true t e = absurd (never-refused (sym e))
-page-text false false t e = same-answer e
 
 module _ (L : Layout) (fits : Fits64 L) where
   -- check accepts every image that a history leaves
@@ -96,7 +89,8 @@ module _ (L : Layout) (fits : Fits64 L) where
       → let f = pageLines * p + i in take (lineBytes L) (drop (i * lineBytes L) text) ≡ lineWith L f (filedIn L (ledger L h) f)
   unfolding pageSaid lineOf
   line-said h s p room i text l k e =
-      let t = page-text (leb (fronts (blocks h)) (pageLines * p)) (ltb room (pageBytes L)) _ (sym (occupancy-said h s p room) ∙ e) in
+      let past = test-passed (leb (fronts (blocks h)) (pageLines * p)) 6 0 (sym (occupancy-said h s p room) ∙ e) in
+      let t = same-answer (test-passed (ltb room (pageBytes L)) 7 0 past) in
       rw (← t)
       (lines-at L (filedIn L (ledger L h)) (fronts (blocks h)) pageLines (pageLines * p) i l ∙ rw (lt-ltb (pageLines * p + i) (fronts (blocks h)) k))
 

@@ -1,7 +1,8 @@
 -- Results: what an accepted one says of what it was made of, and that `andThen` of `andThen` goes on from the first.
--- Main results: `same-answer`, `never-refused`, `was-sound`, `andThen-andThen`, `andThen-accepted`.
+-- Main results: `same-answer`, `never-refused`, `test-passed`, `was-sound`, `andThen-andThen`, `andThen-accepted`.
 use mathlib.Core.Path.{_≡_, refl, sym}
 use Prim.Native.Nat.{ℕ}
+use mathlib.Core.Bool.{Bool, true, false, cond}
 use mathlib.Core.List.{List}
 use mathlib.Core.Option.{Option, none, some}
 use native.Mathlib.Omega.{arith}
@@ -12,6 +13,11 @@ same-answer e = cc
 
 pub never-refused : {A : Type 0} {a : A} {n i : ℕ} → accepted a ≡ refused n i → ⊥
 never-refused e = let z : _≡_ {A = ℕ} 0 1 = cc in omega arith
+
+-- a test before an accepted answer did not refuse it
+pub test-passed : {A : Type 0} (b : Bool) (n i : ℕ) {r : Result A} {a : A} → cond b (refused n i) r ≡ accepted a → r ≡ accepted a
+test-passed true n i e = absurd (never-refused (sym e))
+test-passed false n i e = e
 
 -- a bucket that was accepted was sound
 pub was-sound : (i : ℕ) (o : Option (List ℕ)) (xs : List ℕ) → orUnsound i o ≡ accepted xs → o ≡ some xs

@@ -19,7 +19,7 @@ use Rattle.machine.specs.Bags.{addedAll}
 use Rattle.machine.specs.Images.{sized, frontAt}
 use Rattle.machine.specs.Machine.{membersAt, backyard, overflow}
 use Rattle.machine.specs.OccupancyPages.{pageLines, aligned, column, lineBytes, pageBytes, bar, line, blankLine, lineAt, linesFrom, printFrom, occupancyOf, lineWith, lineOf, linesOf}
-use Rattle.machine.proofs.AcceptedLaws.{same-answer, never-refused, andThen-accepted}
+use Rattle.machine.proofs.AcceptedLaws.{same-answer, test-passed, andThen-accepted}
 use Rattle.machine.proofs.BagLaws.{length-addedAll}
 use Rattle.machine.proofs.Invariant.{Good}
 use Rattle.machine.proofs.PageLaws.{Says, members-good, bucket-length}
@@ -157,17 +157,8 @@ pub page-length : (L : Layout) (img : List ℕ) (p room : ℕ) (text : List ℕ)
 unfolding occupancyOf printFrom
 page-length L img p room text e =
     let s = andThen-accepted (sized img) _ text e in
-    past (s .0) (leb (fronts (s .0)) (pageLines * p)) (s .2)
-  where
-    short : (b : Bool) (t : List ℕ) → cond b (refused 7 0) (accepted t) ≡ accepted text → t ≡ text
-    short true t h = absurd (never-refused (sym h))
-    short false t h = same-answer h
-
-    past : (B : ℕ) (b : Bool) → cond b (refused 6 0) (printFrom L B (pageLines * p) room img) ≡ accepted text → length text ≡ pageBytes L
-    past B true h = absurd (never-refused (sym h))
-    past B false h =
-        let t = andThen-accepted (linesFrom L B pageLines (pageLines * p) img) _ text h in
-        rw (← short (ltb room (pageBytes L)) (t .0) (t .2)) (lines-length L B img pageLines (pageLines * p) (t .0) (t .1))
+    let t = andThen-accepted (linesFrom L (s .0) pageLines (pageLines * p) img) _ text (test-passed (leb (fronts (s .0)) (pageLines * p)) 6 0 (s .2)) in
+    rw (← same-answer (test-passed (ltb room (pageBytes L)) 7 0 (t .2))) (lines-length L (s .0) img pageLines (pageLines * p) (t .0) (t .1))
 
 -- ---- a page by its buckets' members
 

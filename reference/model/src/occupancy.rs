@@ -38,9 +38,9 @@ fn refused(refusal: Refusal) -> String {
 }
 
 /// The names of the stored images.
-pub const NAMES: [&str; 5] = ["full", "day", "unsound", "short", "largest"];
+pub const NAMES: [&str; 4] = ["full", "day", "unsound", "short"];
 
-/// The stored image of this name.
+/// The image of this name: a stored one, or `largest`, which is written anew where it is tried.
 pub fn image(name: &str) -> Option<Vec<u8>> {
     Some(match name {
         "full" => full(),

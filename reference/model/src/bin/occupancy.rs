@@ -2,7 +2,7 @@
 //!
 //!     occupancy run           standard input to standard output
 //!     occupancy names         the names of the stored images
-//!     occupancy image NAME    a stored image
+//!     occupancy image NAME    a stored image, or `largest`
 //!     occupancy text NAME     what must be printed for it
 
 use model::occupancy::{image, run, NAMES};
