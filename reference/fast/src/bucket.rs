@@ -161,12 +161,25 @@ fn is_in(word: u64, mini: u32, slot: u32) -> bool {
     word >> (mini + slot) & 1 == 0
 }
 
+/// Whether a slot of a sound front bucket holds the key, where the members below it are all before
+/// that slot. The tag is tested first: whether the mini-bucket goes on is hard to foresee.
+#[inline(always)]
+unsafe fn holds_front(b: *const u8, word: u64, key: u32, slot: u32) -> bool {
+    slot < FRONT_SLOTS && tag(b, slot) == key & 0xFFFF && is_in(word, key >> 16, slot)
+}
+
+#[inline(always)]
+unsafe fn holds_backyard(b: *const u8, word: u64, key: u32, slot: u32) -> bool {
+    slot < BACKYARD_SLOTS
+        && tag(b, slot) << 4 | crumb(b, slot) == key & 0xFFFFF
+        && is_in(word, key >> 20, slot)
+}
+
 /// The copies of a key in a sound front bucket, which stand from slot `below` on.
 #[inline(always)]
 pub unsafe fn copies_front(b: *const u8, read: Read, key: u32) -> u32 {
-    let (mini, wanted) = (key >> 16, key & 0xFFFF);
     let mut slot = read.below;
-    while slot < FRONT_SLOTS && is_in(read.word, mini, slot) && tag(b, slot) == wanted {
+    while holds_front(b, read.word, key, slot) {
         slot += 1;
     }
     slot - read.below
@@ -175,15 +188,18 @@ pub unsafe fn copies_front(b: *const u8, read: Read, key: u32) -> u32 {
 /// Whether slot `below` of a sound front bucket holds the key.
 #[inline(always)]
 pub unsafe fn found_front(b: *const u8, read: Read, key: u32) -> bool {
-    let (mini, wanted) = (key >> 16, key & 0xFFFF);
-    read.below < FRONT_SLOTS && is_in(read.word, mini, read.below) && tag(b, read.below) == wanted
+    holds_front(b, read.word, key, read.below)
 }
 
+/// The copies of a key that slot `below` of a sound front bucket holds. The tag is tested before the
+/// slot: past the last slot it is read from the next bucket, and every front bucket has one.
 #[inline(always)]
-unsafe fn holds_backyard(b: *const u8, word: u64, key: u32, slot: u32) -> bool {
-    slot < BACKYARD_SLOTS
-        && is_in(word, key >> 20, slot)
-        && tag(b, slot) << 4 | crumb(b, slot) == key & 0xFFFFF
+pub unsafe fn run_front(b: *const u8, read: Read, key: u32) -> u32 {
+    let mut slot = read.below + 1;
+    while tag(b, slot) == key & 0xFFFF && slot < FRONT_SLOTS && is_in(read.word, key >> 16, slot) {
+        slot += 1;
+    }
+    slot - read.below
 }
 
 /// The copies of a key in a sound backyard bucket, which stand from slot `below` on.
@@ -200,6 +216,17 @@ pub unsafe fn copies_backyard(b: *const u8, read: Read, key: u32) -> u32 {
 #[inline(always)]
 pub unsafe fn found_backyard(b: *const u8, read: Read, key: u32) -> bool {
     holds_backyard(b, read.word, key, read.below)
+}
+
+/// The copies of a key that slot `below` of a sound backyard bucket holds. The tag is tested before
+/// the slot: past the last slot there are crumbs.
+#[inline(always)]
+pub unsafe fn run_backyard(b: *const u8, read: Read, key: u32) -> u32 {
+    let mut slot = read.below + 1;
+    while tag(b, slot) == key >> 4 & 0xFFFF && holds_backyard(b, read.word, key, slot) {
+        slot += 1;
+    }
+    slot - read.below
 }
 
 /// The mini-bucket of a member by its slot.

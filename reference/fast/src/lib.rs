@@ -241,9 +241,16 @@ unsafe fn delete_behind(image: &mut [u8], shape: Shape, f: u32, key: u32) -> u64
     }
 }
 
+/// The answer of an ask that ended where a bucket holds so many copies of its key.
 #[inline(always)]
-fn asked(reads: u64, place: u64, slot: u32) -> u64 {
-    reads + 16 * place + 256 * slot as u64
+fn asked(reads: u64, place: u64, slot: u32, copies: u32) -> u64 {
+    reads + 16 * place + 256 * slot as u64 + ((copies as u64) << 16)
+}
+
+/// The answer of an ask that found none.
+#[inline(always)]
+fn none(reads: u64) -> u64 {
+    asked(reads, 0, 0, 0)
 }
 
 #[inline(never)]
@@ -258,10 +265,11 @@ pub fn ask(image: &[u8], hash: u64) -> u64 {
             return unsound(g.front);
         };
         if bucket::found_front(front, read, g.key) {
-            return asked(1, 1, read.below);
+            let copies = bucket::run_front(front, read, g.key);
+            return asked(1, 1, read.below, copies);
         }
         if read.below < FRONT_SLOTS {
-            return asked(1, 0, 0);
+            return none(1);
         }
         let homes = shape.homes(g.front);
         let table = shape.fronts() + homes.b0;
@@ -271,7 +279,8 @@ pub fn ask(image: &[u8], hash: u64) -> u64 {
             return unsound(table);
         };
         if bucket::found_backyard(b, read, key) {
-            return asked(2, 2, read.below);
+            let copies = bucket::run_backyard(b, read, key);
+            return asked(2, 2, read.below, copies);
         }
         let table = shape.fronts() + homes.b1;
         let key = g.key << 4 | homes.crumb1;
@@ -281,9 +290,10 @@ pub fn ask(image: &[u8], hash: u64) -> u64 {
             return unsound(table);
         };
         if bucket::found_backyard(b, read, key) {
-            return asked(3, 3, read.below);
+            let copies = bucket::run_backyard(b, read, key);
+            return asked(3, 3, read.below, copies);
         }
-        asked(3, 0, 0)
+        none(3)
     }
 }
 

@@ -26,6 +26,8 @@ pub enum Place {
 pub struct Asked {
     pub reads: u64,
     pub place: Place,
+    /// The equal copies in the one bag where the ask ended; 0 for none.
+    pub copies: u64,
 }
 
 /// The answer of a row: what each of its asks gives, and the total.
@@ -256,38 +258,45 @@ pub fn delete(image: &mut [u8], hash: u64) -> Result<u64, Refusal> {
     Ok(1 + home.bucket)
 }
 
+/// The answer of an ask that ended in this bag, with the copies of g there, whatever other bags
+/// hold.
+fn ended(reads: u64, place: Place, bag: &[Fingerprint], g: Fingerprint) -> Asked {
+    let copies = match place {
+        Place::None => 0,
+        _ => copies(bag, g),
+    };
+    Asked {
+        reads,
+        place,
+        copies,
+    }
+}
+
 pub fn ask(image: &[u8], hash: u64) -> Result<Asked, Refusal> {
     let shape = sized(image)?;
     let g = Fingerprint::of_hash(hash, shape);
     let f = g.front;
     let front = read_front(image, f)?;
     if let Some(slot) = front.iter().position(|&x| x == g) {
-        return Ok(Asked {
-            reads: 1,
-            place: Place::Front(slot as u64),
-        });
+        return Ok(ended(1, Place::Front(slot as u64), &front, g));
     }
     if front.len() < FRONT_SLOTS || g < front[FRONT_SLOTS - 1] {
-        return Ok(Asked {
-            reads: 1,
-            place: Place::None,
-        });
+        return Ok(ended(1, Place::None, &front, g));
     }
     let home = shape.first_home(f);
     let members = read_backyard(image, shape, home.bucket)?;
+    let first = bag(&members, f, home);
     if let Some(slot) = lowest_slot(&members, member(g, home.crumb)) {
-        return Ok(Asked {
-            reads: 2,
-            place: Place::First(slot),
-        });
+        return Ok(ended(2, Place::First(slot), &first, g));
     }
     let home = shape.second_home(f);
     let members = read_backyard(image, shape, home.bucket)?;
+    let second = bag(&members, f, home);
     let place = match lowest_slot(&members, member(g, home.crumb)) {
         Some(slot) => Place::Second(slot),
         None => Place::None,
     };
-    Ok(Asked { reads: 3, place })
+    Ok(ended(3, place, &second, g))
 }
 
 /// Lone asks. A group is the neighbours with the same front bucket, and counts as its greatest
@@ -481,6 +490,30 @@ mod tests {
             }
         }
         image
+    }
+
+    #[test]
+    fn copies_where_the_ask_ended() {
+        let mut image = fresh_image(SHAPE.b);
+        // Of 13, tag 1 fills the front to 28, with one copy more in Second and one in First; tag 2
+        // has two copies in each.
+        for (tag, how_many) in [(0, 3), (1, 27), (2, 4)] {
+            for _ in 0..how_many {
+                insert(&mut image, hash(13, tag)).unwrap();
+            }
+        }
+        let told = |tag| {
+            let asked = ask(&image, hash(13, tag)).unwrap();
+            (
+                asked.place,
+                asked.copies,
+                count(&image, hash(13, tag)).unwrap().copies,
+            )
+        };
+        assert_eq!(told(0), (Place::Front(0), 3, 3));
+        assert_eq!(told(1), (Place::Front(3), 25, 27));
+        assert_eq!(told(2), (Place::First(1), 2, 4));
+        assert_eq!(told(3), (Place::None, 0, 0));
     }
 
     #[test]

@@ -4,8 +4,8 @@
 
 use crate::calls::{self, Asked, Place, Refusal};
 
-/// An ask in a row, its answer in numbers: place 0 none, 1 front, 2 first, 3 second, and slot 0
-/// where there is none. Copies are left alone.
+/// An ask in a row, its answer in numbers: place 0 none, 1 front, 2 first, 3 second; slot and
+/// copies 0 where there is none.
 #[derive(Clone, Copy, PartialEq, Eq, Debug)]
 pub struct Entry {
     pub hash: u64,
@@ -25,7 +25,8 @@ pub trait Catalogue {
     fn insert(&self, image: &mut [u8], hash: u64) -> u64;
     /// Value: the answer.
     fn delete(&self, image: &mut [u8], hash: u64) -> u64;
-    /// Value: reads + 16 × place + 256 × slot, place 0 none, 1 front, 2 first, 3 second.
+    /// Value: reads + 16 × place + 256 × slot + 2^16 × copies, place 0 none, 1 front, 2 first,
+    /// 3 second.
     fn ask(&self, image: &[u8], hash: u64) -> u64;
     /// Value: the total. Nothing where an implementation has no row.
     fn row(&self, image: &[u8], row: &mut [Entry]) -> Option<u64>;
@@ -79,7 +80,7 @@ impl Catalogue for Model {
     fn ask(&self, image: &[u8], hash: u64) -> u64 {
         pack(calls::ask(image, hash), |asked| {
             let (place, slot) = numbers(&asked);
-            asked.reads + 16 * place + 256 * slot
+            asked.reads + 16 * place + 256 * slot + (asked.copies << 16)
         })
     }
 
@@ -92,6 +93,7 @@ impl Catalogue for Model {
                 entry.reads = asked.reads as u32;
                 entry.place = place as u32;
                 entry.slot = slot as u32;
+                entry.copies = asked.copies as u32;
             }
         }
         Some(pack(result, |rowed| rowed.total))

@@ -372,7 +372,12 @@ mod tests {
             let fields = hashes.iter().flat_map(|&h| [&[h], &told[..]].concat());
             fields.flat_map(u64::to_le_bytes).collect()
         };
-        assert_eq!(row(ask), (1, fields([1, 0, 0, 7])));
+        assert_eq!(row(ask), (1, fields([1, 0, 0, 0])));
+        // All three have one fingerprint.
+        for hash in hashes {
+            row(Line::Insert { x: 0, hash });
+        }
+        assert_eq!(row(ask), (1, fields([1, 1, 0, 3])));
         row(Line::New { x: 0, length: 1025 });
         assert_eq!(row(ask), (1 << 56, fields([7, 7, 7, 7])));
     }

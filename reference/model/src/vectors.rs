@@ -1,17 +1,18 @@
 //! Replays calls of another model from text, and compares every answer and every byte.
 //!
-//! A line is `CALL = RESULT`; a line that begins with # starts a history, without images.
+//! A line is `CALL = RESULT`; a line that begins with # starts a history, without images, and tells
+//! its stage: `at level 13` is that of request C-13. What stands in [ ] is there from stage 13 on.
 //!
 //! ```text
 //! new R LENGTH         image R becomes so many zero bytes         = - SHA
 //! poke R AT HEX        bytes of R from AT on are overwritten      = - SHA
 //! fresh R              check R                                    = 0 SHA
 //! insert R HASH        delete R HASH                              = 0 ANSWER SHA
-//! ask R HASH           no slot: -                                 = 0 READS PLACE SLOT SHA
+//! ask R HASH           no slot: -                                 = 0 READS PLACE SLOT [COPIES] SHA
 //! count R HASH                                                    = 0 COPIES READS SHA
 //! page R S LENGTH      output entry i holds 2^64 - 1 - i before   = 0 HOW_MANY NEXT SHA SHA_OUTPUT
 //! merge R R2 R3        R3 is the target                           = 0 SHA SHA2 SHA3
-//! row R HASHES         an ENTRY is READS/PLACE/SLOT               = 0 TOTAL ENTRIES SHA
+//! row R HASHES         an ENTRY is READS/PLACE/SLOT[/COPIES]      = 0 TOTAL ENTRIES SHA
 //! occupancy R P LENGTH output byte i holds i mod 251 before       = 0 SHA SHA_OUTPUT
 //! ```
 //!
@@ -24,6 +25,9 @@ use crate::sha256::sha256;
 use std::collections::HashMap;
 
 type Images = HashMap<String, Vec<u8>>;
+
+/// From this stage on an ask tells copies.
+const WITH_COPIES: u64 = 13;
 
 /// What a replay found: the calls compared, and a text for each that differs.
 pub struct Replayed {
@@ -54,12 +58,31 @@ fn text(answer: u64, values: impl Fn(u64) -> String) -> String {
     }
 }
 
-fn asked(value: u64) -> String {
-    let (reads, place, slot) = (value % 16, value / 16 % 16, value / 256);
-    match place {
-        0 => format!(" {reads} 0 -"),
-        _ => format!(" {reads} {place} {slot}"),
+/// The stage of a history by the line that starts it; 0 where it tells none.
+fn stage_of(line: &str) -> u64 {
+    let told = line.split_once(" at level ");
+    told.map_or(0, |(_, rest)| {
+        number(rest.split(':').next().unwrap_or(rest))
+    })
+}
+
+/// Reads, place, slot and copies of an ask, as far as they are told at this stage.
+fn asked(stage: u64, [reads, place, slot, copies]: [u64; 4], joined_by: &str) -> String {
+    let slot = match (place, slot) {
+        (0, 0) => "-".to_string(),
+        _ => slot.to_string(),
+    };
+    let mut told = vec![reads.to_string(), place.to_string(), slot];
+    if stage >= WITH_COPIES {
+        told.push(copies.to_string());
     }
+    told.join(joined_by)
+}
+
+/// The answer of a lone ask.
+fn lone(stage: u64, value: u64) -> String {
+    let told = [value % 16, value / 16 % 16, value / 256 % 256, value >> 16];
+    format!(" {}", asked(stage, told, " "))
 }
 
 /// The entries that ask for these hashes; entry i holds 2^32 - 1 - i in its other fields.
@@ -76,10 +99,10 @@ fn entries(hashes: &str) -> Vec<Entry> {
 }
 
 /// The total and the answers of a row.
-fn rowed(total: u64, row: &[Entry]) -> String {
-    let answer = |entry: &Entry| match (entry.place, entry.slot) {
-        (0, 0) => format!("{}/0/-", entry.reads),
-        (place, slot) => format!("{}/{place}/{slot}", entry.reads),
+fn rowed(stage: u64, total: u64, row: &[Entry]) -> String {
+    let answer = |entry: &Entry| {
+        let told = [entry.reads, entry.place, entry.slot, entry.copies];
+        asked(stage, told.map(u64::from), "/")
     };
     let answers: Vec<String> = row.iter().map(answer).collect();
     let entries = match row {
@@ -89,12 +112,10 @@ fn rowed(total: u64, row: &[Entry]) -> String {
     format!(" {total} {entries}")
 }
 
-/// Whether a row kept what it must: all of it where it is refused, else hashes and copies.
+/// Whether a row kept what it must: all of it where it is refused, else the hashes.
 fn kept(answer: u64, before: &[Entry], row: &[Entry]) -> bool {
-    let rest = |row: &[Entry]| -> Vec<(u64, u32)> {
-        row.iter().map(|entry| (entry.hash, entry.copies)).collect()
-    };
-    rest(row) == rest(before) && (answer >> 56 == 0 || row == before)
+    let hashes = |row: &[Entry]| -> Vec<u64> { row.iter().map(|entry| entry.hash).collect() };
+    hashes(row) == hashes(before) && (answer >> 56 == 0 || row == before)
 }
 
 /// Two values, the first in the lower 32 bits.
@@ -102,8 +123,14 @@ fn pair(value: u64) -> String {
     format!(" {} {}", value % (1 << 32), value >> 32)
 }
 
-/// Performs one call: the text of its result. Nothing where the catalogue has no such call.
-fn perform(catalogue: &dyn Catalogue, images: &mut Images, call: &str) -> Option<String> {
+/// Performs one call: the text of its result at this stage. Nothing where the catalogue has no such
+/// call.
+fn perform(
+    catalogue: &dyn Catalogue,
+    images: &mut Images,
+    stage: u64,
+    call: &str,
+) -> Option<String> {
     let words: Vec<&str> = call.split(' ').collect();
     if words[0] == "merge" {
         let mut target = images.remove(words[3]).expect("an image");
@@ -121,7 +148,8 @@ fn perform(catalogue: &dyn Catalogue, images: &mut Images, call: &str) -> Option
             let (result, output) = with_output(catalogue, image, &words)?;
             (result, format!(" {}", sha256(&output)))
         }
-        _ => (on_image(catalogue, image, &words)?, String::new()),
+        "row" => (row(catalogue, image, stage, words[2])?, String::new()),
+        _ => (on_image(catalogue, image, stage, &words), String::new()),
     };
     Some(format!("{result} {}{output}", sha256(image)))
 }
@@ -131,10 +159,10 @@ fn nothing(_: u64) -> String {
     String::new()
 }
 
-/// A call on one image.
-fn on_image(catalogue: &dyn Catalogue, image: &mut [u8], words: &[&str]) -> Option<String> {
+/// A call on one image alone.
+fn on_image(catalogue: &dyn Catalogue, image: &mut [u8], stage: u64, words: &[&str]) -> String {
     let answer = |value| format!(" {value}");
-    Some(match words[0] {
+    match words[0] {
         "new" => "-".to_string(),
         "poke" => {
             let (at, new) = (number(words[2]) as usize, bytes(words[3]));
@@ -145,18 +173,22 @@ fn on_image(catalogue: &dyn Catalogue, image: &mut [u8], words: &[&str]) -> Opti
         "check" => text(catalogue.check(image), nothing),
         "insert" => text(catalogue.insert(image, hash(words[2])), answer),
         "delete" => text(catalogue.delete(image, hash(words[2])), answer),
-        "ask" => text(catalogue.ask(image, hash(words[2])), asked),
+        "ask" => text(catalogue.ask(image, hash(words[2])), |value| {
+            lone(stage, value)
+        }),
         "count" => text(catalogue.count(image, hash(words[2])), pair),
-        "row" => {
-            let before = entries(words[2]);
-            let mut row = before.clone();
-            let answer = catalogue.row(image, &mut row)?;
-            match kept(answer, &before, &row) {
-                true => text(answer, |total| rowed(total, &row)),
-                false => "entries not kept".to_string(),
-            }
-        }
         other => panic!("no such call: {other}"),
+    }
+}
+
+/// A row that asks for these hashes.
+fn row(catalogue: &dyn Catalogue, image: &[u8], stage: u64, hashes: &str) -> Option<String> {
+    let before = entries(hashes);
+    let mut row = before.clone();
+    let answer = catalogue.row(image, &mut row)?;
+    Some(match kept(answer, &before, &row) {
+        true => text(answer, |total| rowed(stage, total, &row)),
+        false => "entries not kept".to_string(),
     })
 }
 
@@ -185,16 +217,17 @@ pub fn output_before(length: usize) -> Vec<u8> {
 
 /// Replays a whole text.
 pub fn replay(catalogue: &dyn Catalogue, lines: &str) -> Replayed {
-    let mut images = Images::new();
+    let (mut images, mut stage) = (Images::new(), 0);
     let mut compared = 0;
     let mut differences = Vec::new();
     for (at, line) in lines.lines().enumerate() {
         if line.starts_with('#') {
             images.clear();
+            stage = stage_of(line);
             continue;
         }
         let (call, expected) = line.split_once(" = ").expect("CALL = RESULT");
-        let Some(got) = perform(catalogue, &mut images, call) else {
+        let Some(got) = perform(catalogue, &mut images, stage, call) else {
             continue;
         };
         compared += 1;
@@ -213,10 +246,11 @@ pub fn replay(catalogue: &dyn Catalogue, lines: &str) -> Replayed {
 mod tests {
     use super::*;
     use crate::catalogue::Model;
+    use crate::prepare::fresh_image;
 
     #[test]
     fn a_difference_is_seen() {
-        let fresh = sha256(&crate::prepare::fresh_image(1));
+        let fresh = sha256(&fresh_image(1));
         let good = format!(
             "# a\n\
              new a 1024 = - {}\n\
@@ -234,6 +268,36 @@ mod tests {
         for (right, wrong) in [("= 5", "= 4"), ("1/0/- ", "1/1/0 "), (" 9 ", " 8 ")] {
             let wrong = good.replace(right, wrong);
             assert_eq!(replay(&Model, &wrong).differences.len(), 1);
+        }
+    }
+
+    #[test]
+    fn copies_from_stage_13_on() {
+        let (zeros, mut image) = (vec![0; 1024], fresh_image(1));
+        let fresh = sha256(&image);
+        Model.insert(&mut image, 0x1F);
+        let (zeros, filed) = (sha256(&zeros), sha256(&image));
+        let calls = |with: &str, without: &str| {
+            format!(
+                "new a 1024 = - {zeros}\n\
+                 fresh a = 0 {fresh}\n\
+                 insert a 1F = 0 0 {filed}\n\
+                 ask a 1F = 0 1 1 0{with} {filed}\n\
+                 ask a 2F = 0 1 0 -{without} {filed}\n",
+            )
+        };
+        let told = calls(" 1", " 0") + &format!("row a 1F,2F = 0 1 1/1/0/1,1/0/-/0 {filed}\n");
+        let untold = calls("", "") + &format!("row a 1F,2F = 0 1 1/1/0,1/0/- {filed}\n");
+        for (level, right, wrong) in [
+            ("", &untold, &told),
+            (" at level 12", &untold, &told),
+            (" at level 13", &told, &untold),
+        ] {
+            let differ = |calls: &str| {
+                let history = format!("# history 0 of seed 1{level}: plain\n{calls}");
+                replay(&Model, &history).differences.len()
+            };
+            assert_eq!((differ(right), differ(wrong)), (0, 3));
         }
     }
 }
