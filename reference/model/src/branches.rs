@@ -4,10 +4,10 @@
 //! `ROWS` and of `OCCUPANCY`; the stored ones too, but for those of `BEYOND_THREE`.
 
 use crate::bucket::{Bytes, Member};
-use crate::calls::{self, bag, members, read_backyard, read_front, Asked, Bag, Place};
+use crate::calls::{self, bag, member, members, read_backyard, read_front, Asked, Bag, Place};
 use crate::calls::{LINES, OCCUPANCY_BYTES};
 use crate::fingerprint::Fingerprint;
-use crate::shape::{Shape, BUCKET};
+use crate::shape::{Shape, BACKYARD_SLOTS, BUCKET, FRONT_SLOTS};
 use crate::stored::{row_hashes, Images, Line};
 use std::collections::HashSet;
 use std::ops::Range;
@@ -73,16 +73,48 @@ pub const ALL: &[&str] = &[
     "ask: 3 in b0",
     "ask: 3 in b1",
     "ask: front",
+    "ask: front, one copy",
+    "ask: front, several copies",
+    "ask: front, a copy in every slot",
+    "ask: front, several copies, then its tag in another mini-bucket",
+    "ask: front, several copies, then another tag",
+    "ask: front, several copies, then no member",
+    "ask: front, several copies, then no slot",
     "ask: front, equal to the largest of 28",
+    "ask: front, equal to the largest of 28, copies behind",
     "ask: none, room in front",
+    "ask: none, room in front, copies behind",
     "ask: none, below the largest",
+    "ask: none, below the largest, copies behind",
     "ask: first",
+    "ask: first, one copy",
+    "ask: first, several copies",
+    "ask: first, a copy in every slot",
+    "ask: first, several copies after another crumb",
+    "ask: first, several copies, then another crumb",
+    "ask: first, several copies, then its tag in another mini-bucket",
+    "ask: first, several copies, then another tag",
+    "ask: first, several copies, then no member",
+    "ask: first, several copies, then no slot",
+    "ask: first, copies in second",
+    "ask: first, copies in second, b0 = b1",
     "ask: first, b1 unsound",
     "ask: first, b0 = b1",
     "ask: second",
+    "ask: second, one copy",
+    "ask: second, several copies",
+    "ask: second, a copy in every slot",
+    "ask: second, several copies after another crumb",
+    "ask: second, several copies, then another crumb",
+    "ask: second, several copies, then its tag in another mini-bucket",
+    "ask: second, several copies, then another tag",
+    "ask: second, several copies, then no member",
+    "ask: second, several copies, then no slot",
     "ask: second, b0 = b1",
     "ask: none, 3 reads",
+    "ask: none, 3 reads, another front bucket's equal behind",
     "ask: slot above 0",
+    "ask: several copies of tag 0, then no member",
     "count: 1",
     "count: 3 in front",
     "count: 3 in b0",
@@ -191,6 +223,9 @@ pub const ROWS: &[&str] = &[
     "row: 1, 2 and 3 reads in one group",
     "row: none, front, first and second in one row",
     "row: one fingerprint twice",
+    "row: several copies in front",
+    "row: several copies in first",
+    "row: several copies in second",
     "row: first, b0 = b1",
     "row: second, b0 = b1",
     "row: none, b0 = b1",
@@ -475,40 +510,94 @@ fn ask(names: &mut Names, image: &[u8], hash: u64) {
     let Ok(front) = read_front(image, g.front) else {
         return names.add("ask: 3 in front");
     };
+    let behind = behind(image, shape, g.front);
     if front.contains(&g) {
-        names.add("ask: front");
-        names.add_if(front[0] < g, "ask: slot above 0");
-        names.add_if(
-            front.len() == 28 && front[27] == g,
-            "ask: front, equal to the largest of 28",
-        );
+        let front: Vec<Member> = front.iter().map(|&g| member(g, 0)).collect();
+        ask_found(names, "front", &front, FRONT_SLOTS, member(g, 0));
+        if front.len() == 28 && front[27] == member(g, 0) {
+            names.add("ask: front, equal to the largest of 28");
+            let more = "ask: front, equal to the largest of 28, copies behind";
+            names.add_if(behind.holds(g), more);
+        }
         return;
     }
-    if front.len() < 28 {
-        return names.add("ask: none, room in front");
+    if front.len() < 28 || g < front[27] {
+        let why = if front.len() < 28 {
+            "ask: none, room in front"
+        } else {
+            "ask: none, below the largest"
+        };
+        names.add(why);
+        return names.add_if(behind.holds(g), &format!("{why}, copies behind"));
     }
-    if g < front[27] {
-        return names.add("ask: none, below the largest");
-    }
-    let behind = behind(image, shape, g.front);
-    if behind.bucket0.is_none() {
+    ask_behind(names, &behind, shape, g);
+}
+
+/// An ask that reads behind the front bucket.
+fn ask_behind(names: &mut Names, behind: &Behind, shape: Shape, g: Fingerprint) {
+    let Some(bucket0) = &behind.bucket0 else {
         return names.add("ask: 3 in b0");
-    }
+    };
     if behind.first.contains(&g) {
-        names.add("ask: first");
+        let x = member(g, shape.first_home(g.front).crumb);
+        ask_found(names, "first", bucket0, BACKYARD_SLOTS, x);
         names.add_if(behind.bucket1.is_none(), "ask: first, b1 unsound");
         names.add_if(behind.same, "ask: first, b0 = b1");
+        if behind.second.contains(&g) {
+            names.add("ask: first, copies in second");
+            names.add_if(behind.same, "ask: first, copies in second, b0 = b1");
+        }
         return;
     }
-    if behind.bucket1.is_none() {
+    let Some(bucket1) = &behind.bucket1 else {
         return names.add("ask: 3 in b1");
-    }
+    };
     if behind.second.contains(&g) {
-        names.add("ask: second");
-        names.add_if(behind.same, "ask: second, b0 = b1");
-        return;
+        let x = member(g, shape.second_home(g.front).crumb);
+        ask_found(names, "second", bucket1, BACKYARD_SLOTS, x);
+        return names.add_if(behind.same, "ask: second, b0 = b1");
     }
     names.add("ask: none, 3 reads");
+    names.add_if(
+        behind.equal_of_another(g),
+        "ask: none, 3 reads, another front bucket's equal behind",
+    );
+}
+
+/// An ask that ended at this place: the copies of x among the members of a bucket with so many
+/// slots, and what stands before and after them.
+fn ask_found(names: &mut Names, place: &str, members: &[Member], slots: usize, x: Member) {
+    let slot = members.iter().position(|&y| y == x).expect("found there");
+    let copies = members.iter().filter(|&&y| y == x).count();
+    names.add(&format!("ask: {place}"));
+    names.add_if(slot > 0, "ask: slot above 0");
+    if copies == 1 {
+        return names.add(&format!("ask: {place}, one copy"));
+    }
+    let several = format!("ask: {place}, several copies");
+    names.add(&several);
+    names.add_if(
+        copies == slots,
+        &format!("ask: {place}, a copy in every slot"),
+    );
+    let same_key = |y: &Member| (y.mini, y.tag) == (x.mini, x.tag);
+    names.add_if(
+        slot > 0 && same_key(&members[slot - 1]),
+        &format!("{several} after another crumb"),
+    );
+    let then = match members.get(slot + copies) {
+        None if members.len() == slots => "no slot",
+        None => "no member",
+        Some(y) if same_key(y) => "another crumb",
+        Some(y) if y.mini == x.mini => "another tag",
+        Some(y) if y.tag == x.tag => "its tag in another mini-bucket",
+        Some(_) => return,
+    };
+    names.add(&format!("{several}, then {then}"));
+    names.add_if(
+        x.tag == 0 && then == "no member",
+        "ask: several copies of tag 0, then no member",
+    );
 }
 
 /// Which bucket of f has this table number.
@@ -611,6 +700,13 @@ fn group(names: &mut Names, shape: Shape, hashes: &[u64], asked: &[Asked]) -> u6
         .map(|hash| fingerprint(hash).number())
         .collect();
     names.add_if(distinct.len() < hashes.len(), "row: one fingerprint twice");
+    for asked in asked.iter().filter(|asked| asked.copies > 1) {
+        names.add(match asked.place {
+            Place::Front(_) => "row: several copies in front",
+            Place::First(_) => "row: several copies in first",
+            _ => "row: several copies in second",
+        });
+    }
     let f = fingerprint(&hashes[0]).front;
     if shape.first_home(f).bucket == shape.second_home(f).bucket {
         for asked in asked.iter().filter(|asked| asked.reads > 1) {

@@ -116,7 +116,8 @@ fn write_backyard(image: &mut [u8], shape: Shape, j: u64, members: &[Member]) {
     write_at(image, table, bucket::encode_backyard(members));
 }
 
-fn member(g: Fingerprint, crumb: u64) -> Member {
+/// A fingerprint as a bucket holds it.
+pub fn member(g: Fingerprint, crumb: u64) -> Member {
     Member {
         mini: g.mini,
         tag: g.tag,

@@ -1,5 +1,6 @@
 //! The calls that are stored for the program `trial`: document 01's cases one by one, then
-//! short random histories, then rows of three asks, then occupancy pages. Always the same lines.
+//! short random histories, then rows of three asks, then occupancy pages, then asks where copies
+//! stand. Always the same lines.
 
 use crate::bucket::{encode_backyard, encode_front, Member};
 use crate::fingerprint::Fingerprint;
@@ -8,6 +9,7 @@ use crate::prepare::{hash_of, Player};
 use crate::random::Random;
 use crate::shape::Shape;
 use crate::stored::{Images, Line, Step};
+use std::collections::BTreeSet;
 
 /// No image that is stored is longer; B is at most 21.
 pub const LONGEST_IMAGE: usize = 12800;
@@ -770,6 +772,92 @@ fn last_occupancy(p: &mut Player) {
     }
 }
 
+/// So many copies of each mini-bucket and tag with its crumb.
+fn repeated(members: &[(usize, u64, u64, u64)]) -> Vec<Member> {
+    let copies = |&(n, mini, tag, crumb): &_| vec![member(mini, tag, crumb); n];
+    members.iter().flat_map(copies).collect()
+}
+
+/// Asks where copies stand, alone and in rows. In b0 = 1 the crumbs 4, 5 and 6 are those of front
+/// buckets 12, 13 and 14; in b1 = 5 the crumbs 8, 9 and 10 are those of 5, 13 and 21.
+fn copies(p: &mut Player) {
+    p.fresh(0, 3);
+    for f in [5, 12, 14, 21] {
+        p.put_front(0, f, full_front());
+    }
+    let front = [
+        (3, 4, 400, 0), // then its tag in the next mini-bucket
+        (4, 5, 400, 0), // then another tag
+        (2, 5, 500, 0),
+        (1, 6, 0, 0),
+        (18, 7, 700, 0), // up to slot 27, and more in First
+    ];
+    let first = [
+        (2, 7, 700, 5),
+        (1, 8, 100, 4),
+        (3, 8, 100, 5), // between other crumbs, and more in Second
+        (1, 8, 100, 6),
+        (2, 8, 101, 5), // then another tag
+        (1, 8, 102, 5),
+        (2, 9, 300, 5), // then its tag in the next mini-bucket
+        (1, 10, 300, 5),
+        (9, 20, 1, 5), // up to slot 21
+    ];
+    let second = [
+        (2, 8, 100, 9),
+        (1, 11, 100, 8),
+        (3, 11, 100, 9), // between other crumbs
+        (1, 11, 100, 10),
+        (2, 11, 101, 9), // then another tag
+        (1, 11, 102, 9),
+        (2, 12, 300, 9), // then its tag in the next mini-bucket
+        (1, 13, 300, 9),
+        (2, 35, 0, 9), // the last members of 15
+    ];
+    p.put_front(0, 13, repeated(&front));
+    p.put_backyard(0, 1, repeated(&first));
+    p.put_backyard(0, 5, repeated(&second));
+    p.check(0);
+    let all = front.iter().chain(&first).chain(&second);
+    let keys: BTreeSet<(u64, u64)> = all.map(|&(_, mini, tag, _)| (mini, tag)).collect();
+    for (mini, tag) in keys {
+        p.look(0, g(13, mini, tag));
+    }
+    // Those of the front buckets beside it, and one that is nowhere.
+    for (f, mini) in [(12, 8), (14, 8), (5, 11), (21, 11), (13, 14)] {
+        p.look(0, g(f, mini, 100));
+    }
+    // Rows: front twice, none; first, second, none; first of three front buckets.
+    ask_row(p, 26, 4, 400, 0, 1);
+    ask_row(p, 26, 8, 100, 0, 3);
+    ask_row(p, 24, 8, 100, 2, 0);
+    copies_at_ends(p);
+}
+
+/// Buckets of nothing but copies, full and with room; a tag of 0 is what unused slots hold.
+fn copies_at_ends(p: &mut Player) {
+    for tag in [0, 65535] {
+        for n in [28, 27, 2] {
+            p.fresh(0, 3);
+            p.put_front(0, 13, repeated(&[(n, 35, tag, 0)]));
+            p.look(0, g(13, 35, tag));
+            p.delete(0, g(13, 35, tag));
+        }
+        for n in [22, 21, 2] {
+            p.fresh(0, 3);
+            p.put_front(0, 13, full_front());
+            p.put_front(0, 8, full_front());
+            // All of b0 = 1 is 8's, with crumb 0, then 13's; then all of b1 = 5 is 13's.
+            for (j, f, crumb) in [(1, 8, 0), (1, 13, 5), (5, 13, 9)] {
+                p.put_backyard(0, 1, vec![]);
+                p.put_backyard(0, j, repeated(&[(n, 35, tag, crumb)]));
+                p.look(0, g(f, 35, tag));
+                p.delete(0, g(f, 35, tag));
+            }
+        }
+    }
+}
+
 /// The stored input.
 pub fn input() -> String {
     let mut text = String::new();
@@ -794,6 +882,7 @@ pub fn input() -> String {
     }
     rows(p);
     occupancy_pages(p);
+    copies(p);
     text
 }
 
@@ -848,7 +937,6 @@ mod tests {
     use super::*;
     use crate::branches;
     use crate::catalogue::Model;
-    use std::collections::BTreeSet;
 
     #[test]
     fn every_branch_and_every_number() {
