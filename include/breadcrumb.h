@@ -65,17 +65,20 @@ uint64_t bcf_delete(uint8_t *image, size_t length, uint64_t hash);
 #define BCF_MOVED(answer) (BCF_VALUE(answer) != 0)
 #define BCF_BACKYARD(answer) (BCF_VALUE(answer) - 1)
 
-/* Where the fingerprint is, and the buckets read. */
+/* Where the fingerprint is, its copies there, and the buckets read. */
 uint64_t bcf_ask(const uint8_t *image, size_t length, uint64_t hash);
 
-/* Of an accepted ask. The slot is the lowest one of the fingerprint, 0 where there is none. */
+/* Of an accepted ask. The slot is the lowest one of the fingerprint, the copies are those at this
+ * place: of a fingerprint in front more may be in first and second, of one in first more in second,
+ * and bcf_count tells them all. Both are 0 where there is none. */
 enum { BCF_NONE = 0, BCF_FRONT = 1, BCF_FIRST = 2, BCF_SECOND = 3 };
 #define BCF_ASK_READS(answer) ((unsigned)(BCF_VALUE(answer) % 16))
 #define BCF_ASK_PLACE(answer) ((unsigned)(BCF_VALUE(answer) / 16 % 16))
-#define BCF_ASK_SLOT(answer) ((unsigned)(BCF_VALUE(answer) / 256))
+#define BCF_ASK_SLOT(answer) ((unsigned)(BCF_VALUE(answer) / 256 % 256))
+#define BCF_ASK_COPIES(answer) ((unsigned)(BCF_VALUE(answer) / 65536))
 
-/* An ask in a row. An accepted row keeps the hash and sets reads, place and slot to what a lone
- * ask gives, the slot to 0 where there is none. It leaves copies alone. */
+/* An ask in a row. An accepted row keeps the hash and sets reads, place, slot and copies to what a
+ * lone ask gives, slot and copies to 0 where there is none. */
 typedef struct {
     uint64_t hash;
     uint32_t reads, place, slot, copies;

@@ -112,7 +112,10 @@ int main(void)
     value(bcf_insert(today, sizeof today, hash_of(7, 30)));
     uint64_t counted = bcf_count(today, sizeof today, hash_of(7, 30));
     value(counted);
-    printf("filed twice: %u copies\n", BCF_COUNT_COPIES(counted));
+    asked = bcf_ask(today, sizeof today, hash_of(7, 30));
+    value(asked);
+    printf("filed twice: %u copies, %u of them where the ask ended\n", BCF_COUNT_COPIES(counted),
+           BCF_ASK_COPIES(asked));
     value(bcf_delete(today, sizeof today, hash_of(7, 30)));
     value(bcf_delete(today, sizeof today, hash_of(7, 30)));
     printf("taken out a third time: %u\n",

@@ -90,7 +90,8 @@ fn main() -> Result<(), Refusal> {
 
     today.insert(hash_of(7, 30))?;
     let copies = today.count(hash_of(7, 30))?.copies;
-    println!("filed twice: {copies} copies");
+    let there = today.ask(hash_of(7, 30))?.copies;
+    println!("filed twice: {copies} copies, {there} of them where the ask ended");
     today.delete(hash_of(7, 30))?;
     today.delete(hash_of(7, 30))?;
     if today.delete(hash_of(7, 30)) == Err(Refusal::Absent) {

@@ -87,6 +87,9 @@ pub enum Place {
 pub struct Asked {
     pub reads: u64,
     pub place: Place,
+    /// The copies at this place, 0 for none: of a fingerprint in front more may be in first and
+    /// second, of one in first more in second. A count tells them all.
+    pub copies: u64,
 }
 
 /// An ask in a row: its hash, and what an accepted row tells of it in numbers.
@@ -99,7 +102,7 @@ pub struct Entry {
     pub place: u32,
     /// 0 where the place is none.
     pub slot: u32,
-    /// A row leaves this alone.
+    /// 0 where the place is none.
     pub copies: u32,
 }
 
@@ -120,6 +123,7 @@ impl Entry {
         Asked {
             reads: self.reads.into(),
             place: place(self.place.into(), self.slot.into()),
+            copies: self.copies.into(),
         }
     }
 }
@@ -214,7 +218,8 @@ impl<Bytes: AsRef<[u8]>> Image<Bytes> {
         let value = unpack(packed::ask(self.bytes(), hash))?;
         Ok(Asked {
             reads: value % 16,
-            place: place(value / 16 % 16, value / 256),
+            place: place(value / 16 % 16, value / 256 % 256),
+            copies: value >> 16,
         })
     }
 

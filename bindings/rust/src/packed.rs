@@ -57,7 +57,8 @@ pub fn delete(image: &mut [u8], hash: u64) -> u64 {
     unsafe { bcf_delete(image.as_mut_ptr(), image.len(), hash) }
 }
 
-/// Value: reads + 16 × place + 256 × slot, place 0 none, 1 front, 2 first, 3 second.
+/// Value: reads + 16 × place + 256 × slot + 2^16 × copies, place 0 none, 1 front, 2 first,
+/// 3 second.
 pub fn ask(image: &[u8], hash: u64) -> u64 {
     unsafe { bcf_ask(image.as_ptr(), image.len(), hash) }
 }

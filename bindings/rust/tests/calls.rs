@@ -11,17 +11,43 @@ fn places_and_copies() {
     }
     assert_eq!(image.insert(THIRTEEN + 1), Ok(Changed::Backyard(5)));
     assert_eq!(image.insert(THIRTEEN + 2), Ok(Changed::Backyard(1)));
-    let asked = |reads, place| Ok(Asked { reads, place });
-    assert_eq!(image.ask(THIRTEEN), asked(1, Place::Front(0)));
-    assert_eq!(image.ask(THIRTEEN + 2), asked(2, Place::First(0)));
-    assert_eq!(image.ask(THIRTEEN + 1), asked(3, Place::Second(0)));
-    assert_eq!(image.ask(THIRTEEN + 3), asked(3, Place::None));
+    let asked = |reads, place, copies| {
+        Ok(Asked {
+            reads,
+            place,
+            copies,
+        })
+    };
+    assert_eq!(image.ask(THIRTEEN), asked(1, Place::Front(0), 28));
+    assert_eq!(image.ask(THIRTEEN + 2), asked(2, Place::First(0), 1));
+    assert_eq!(image.ask(THIRTEEN + 1), asked(3, Place::Second(0), 1));
+    assert_eq!(image.ask(THIRTEEN + 3), asked(3, Place::None, 0));
     let counted = |copies, reads| Ok(Counted { copies, reads });
     assert_eq!(image.count(THIRTEEN), counted(28, 3));
     assert_eq!(image.count(0), counted(0, 1));
     assert_eq!(image.list().unwrap().len(), 30);
     assert_eq!(image.delete(THIRTEEN), Ok(Changed::Backyard(5)));
     assert_eq!(image.check(), Ok(()));
+}
+
+#[test]
+fn copies_where_an_ask_ends() {
+    let mut image = Image::new(3).unwrap();
+    // Front has 27 and one, First one and two, Second two and two.
+    for (tag, how_many) in [(0, 27), (1, 4), (2, 4)] {
+        for _ in 0..how_many {
+            image.insert(THIRTEEN + tag).unwrap();
+        }
+    }
+    let told = |tag| {
+        let asked = image.ask(THIRTEEN + tag).unwrap();
+        let counted = image.count(THIRTEEN + tag).unwrap();
+        (asked.place, asked.copies, counted.copies)
+    };
+    assert_eq!(told(0), (Place::Front(0), 27, 27));
+    assert_eq!(told(1), (Place::Front(27), 1, 4));
+    assert_eq!(told(2), (Place::First(1), 2, 4));
+    assert_eq!(told(3), (Place::None, 0, 0));
 }
 
 #[test]
@@ -52,6 +78,17 @@ fn refusals() {
     assert_eq!(target.merge(&early, &other), Err(Refusal::LengthsDiffer));
 }
 
+/// An entry that holds 7 besides its hash.
+fn told_before(hash: u64) -> Entry {
+    Entry {
+        hash,
+        reads: 7,
+        place: 7,
+        slot: 7,
+        copies: 7,
+    }
+}
+
 #[test]
 fn rows() {
     let mut image = Image::new(3).unwrap();
@@ -59,26 +96,28 @@ fn rows() {
         image.insert(THIRTEEN + 10 * n).unwrap();
     }
     image.insert(u64::MAX).unwrap();
+    image.insert(u64::MAX).unwrap();
     // Three groups: one ask in front bucket 0, five in 13 that end in every way, two in 23.
     let asks = [
-        (1, 1, Place::None),
-        (THIRTEEN, 1, Place::Front(0)),
-        (THIRTEEN + 390, 2, Place::First(5)),
-        (THIRTEEN + 380, 3, Place::Second(5)),
-        (THIRTEEN + 5, 1, Place::None),
-        (THIRTEEN + 395, 3, Place::None),
-        (u64::MAX - 1, 1, Place::None),
-        (u64::MAX, 1, Place::Front(0)),
+        (1, 1, Place::None, 0),
+        (THIRTEEN, 1, Place::Front(0), 1),
+        (THIRTEEN + 390, 2, Place::First(5), 1),
+        (THIRTEEN + 380, 3, Place::Second(5), 1),
+        (THIRTEEN + 5, 1, Place::None, 0),
+        (THIRTEEN + 395, 3, Place::None, 0),
+        (u64::MAX - 1, 1, Place::None, 0),
+        (u64::MAX, 1, Place::Front(0), 2),
     ];
-    let mut row = asks.map(|(hash, ..)| Entry::new(hash));
-    for (entry, copies) in row.iter_mut().zip(1..) {
-        entry.copies = copies;
-    }
+    let mut row = asks.map(|(hash, ..)| told_before(hash));
     assert_eq!(image.row(&mut row), Ok(1 + 3 + 1));
-    for ((entry, copies), (hash, reads, place)) in row.iter().zip(1..).zip(asks) {
-        assert_eq!((entry.hash, entry.copies), (hash, copies));
-        assert_eq!(entry.asked(), Asked { reads, place });
-        assert_eq!(image.ask(hash), Ok(entry.asked()));
+    for (entry, (hash, reads, place, copies)) in row.iter().zip(asks) {
+        let asked = Asked {
+            reads,
+            place,
+            copies,
+        };
+        assert_eq!((entry.hash, entry.asked()), (hash, asked));
+        assert_eq!(image.ask(hash), Ok(asked));
     }
     assert_eq!(image.row(&mut []), Ok(0));
     assert_eq!(std::mem::size_of::<Entry>(), 24);
@@ -86,8 +125,8 @@ fn rows() {
 
 #[test]
 fn refused_rows() {
-    let ascending = [THIRTEEN, u64::MAX].map(Entry::new);
-    let descending = [u64::MAX, THIRTEEN].map(Entry::new);
+    let ascending = [THIRTEEN, u64::MAX].map(told_before);
+    let descending = [u64::MAX, THIRTEEN].map(told_before);
     let mut image = Image::new(3).unwrap().into_bytes();
     // A refused row keeps its entries.
     let refused = |image: &[u8], row: [Entry; 2]| {
