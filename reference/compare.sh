@@ -8,13 +8,21 @@ after=$(realpath "$2")
 shift 2
 cd "$(dirname "$0")"
 
+# The feature of `bench` for an archive: with rows where it has all that is linked for them.
+feature_of() {
+  local found
+  found=$(nm --defined-only "$1" | grep -cE ' T bcf_(row|occupancy)$' || true)
+  if [ "$found" -eq 2 ]; then echo bench/rows; else echo bench/capi; fi
+}
+
 # The `bench` of an archive, in a target folder of its own. Every function starts on a cache line, as in the archive that ships.
 bench_of() {
+  local lib=target/$1/lib
   case $2 in
   *.a)
-    mkdir -p "target/$1/lib"
-    ../bindings/archive.sh "$2" "target/$1/lib/libcapi.a"
-    CAPI_LIB_DIR=$PWD/target/$1/lib cargo build --offline --release --quiet -p bench --features bench/capi --target-dir "target/$1"
+    mkdir -p "$lib"
+    ../bindings/archive.sh "$2" "$lib/libcapi.a"
+    CAPI_LIB_DIR=$PWD/$lib cargo build --offline --release --quiet -p bench --features "$(feature_of "$2")" --target-dir "target/$1"
     echo "target/$1/release/bench"
     ;;
   *) echo "$2" ;;

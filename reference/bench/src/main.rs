@@ -7,8 +7,9 @@
 //!
 //! The first writes FOLDER/bench.md and FOLDER/bench.svg; `quick` takes fewer rounds. The next two
 //! print the table of rows or of occupancy pages alone, which are there with the feature `rows`.
-//! The last is for `compare`: it names its calls, and times the one whose number comes on standard
-//! input, again and again; its buffers are files of FOLDER.
+//! The last is for `compare`: it names its calls, with the feature `rows` those of rows too, and
+//! times the one whose number comes on standard input, again and again; its buffers are files of
+//! FOLDER.
 
 mod inputs;
 mod lines;
@@ -195,6 +196,20 @@ fn occupancy_table(quick: bool) -> Option<String> {
     ))
 }
 
+/// Times rows of about so many asks, for hashes that are there or for others: ns an ask.
+type TimeRows = Box<dyn FnMut(bool, usize) -> f64>;
+
+#[cfg(feature = "rows")]
+fn rows_alone(setting: Setting, start: (&[u8], &[u64]), file: &File) -> Option<TimeRows> {
+    let mut rows = rows::Alone::new(setting, start, file);
+    Some(Box::new(move |there, asks| rows.time(there, asks)))
+}
+
+#[cfg(not(feature = "rows"))]
+fn rows_alone(_: Setting, _: (&[u8], &[u64]), _: &File) -> Option<TimeRows> {
+    None
+}
+
 #[cfg(not(feature = "rows"))]
 fn rows_table(_: bool) -> Option<String> {
     None
@@ -256,7 +271,8 @@ fn panels(
     panels
 }
 
-/// The first implementation makes the calls that it is told to.
+/// The first implementation makes the calls that it is told to: `CALLS`, then those of rows where
+/// it has them.
 fn calls(setting: Setting, folder: &str) {
     let size = effort(setting.b, true).batch;
     let file = |number: usize| {
@@ -265,10 +281,19 @@ fn calls(setting: Setting, folder: &str) {
         open.open(format!("{folder}/{number}")).expect("a buffer")
     };
     let mut rounds = Rounds::new(setting, Who::First((0..4).map(file).collect()));
-    println!("{}", CALLS.map(|(name, _)| name).join("\t"));
+    let mut rows = rows_alone(setting, rounds.start(), &file(4));
+    let mut names = CALLS.map(|(name, _)| name).to_vec();
+    if rows.is_some() {
+        names.extend(["row, hit", "row, miss"]);
+    }
+    println!("{}", names.join("\t"));
     for line in std::io::stdin().lines() {
-        let call = line.expect("input").parse().expect("a call's number");
-        println!("{}", rounds.alone(call, size).expect("a time"));
+        let call: usize = line.expect("input").parse().expect("a call's number");
+        let ns = match &mut rows {
+            Some(rows) if call >= CALLS.len() => Some(rows(call == CALLS.len(), size)),
+            _ => rounds.alone(call, size),
+        };
+        println!("{}", ns.expect("a time"));
     }
 }
 

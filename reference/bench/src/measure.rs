@@ -78,7 +78,7 @@ fn subjects(setting: Setting, who: &Who, members: &[u64], start: &[u8]) -> Vec<B
 }
 
 /// The processor time of this thread in ns: what else runs on the machine is not in it.
-fn processor_time() -> f64 {
+pub fn processor_time() -> f64 {
     #[repr(C)]
     struct Time {
         seconds: i64,
@@ -178,6 +178,11 @@ impl Rounds {
             },
             done: 0,
         }
+    }
+
+    /// The image at the start, before any round, and its members.
+    pub fn start(&self) -> (&[u8], &[u64]) {
+        (&self.room, &self.members)
     }
 
     /// A round of the first so many of `CALLS`, on hashes of its own. Takes by subject, call and ns

@@ -2,10 +2,12 @@
 
 use crate::inputs::{filled, Setting};
 use crate::lines::Lines;
-use crate::measure::{timed, wall_time, Effort};
+use crate::measure::{processor_time, timed, wall_time, Effort};
 use crate::turns::in_turns;
 use breadcrumb::{packed, Entry};
 use model::random::Random;
+use std::fs::File;
+use std::hint::black_box;
 
 /// A row has the asks of so many front buckets, so many each.
 const GROUPS: usize = 12;
@@ -31,14 +33,17 @@ impl Source {
     fn new(setting: Setting) -> (Vec<u8>, Source) {
         let mut random = Random::new(setting.b * 1000 + setting.load);
         let any = std::iter::repeat_with(|| random.bits());
-        let (image, mut members) = filled(setting, any, setting.members());
+        let (image, members) = filled(setting, any, setting.members());
+        (image, Source::of(setting, random, members))
+    }
+
+    fn of(setting: Setting, random: Random, mut members: Vec<u64>) -> Source {
         members.sort_unstable();
-        let source = Source {
+        Source {
             setting,
             random,
             members,
-        };
-        (image, source)
+        }
     }
 
     /// The lowest upper half that a hash of front bucket f has; 2^32 for f = F.
@@ -89,6 +94,11 @@ impl Source {
         hashes.sort_unstable();
         hashes.try_into().expect("as many as a row has")
     }
+
+    /// Rows with so many asks in all, or a few less.
+    fn rows(&mut self, there: bool, asks: usize) -> Vec<[u64; ROW]> {
+        (0..asks / ROW).map(|_| self.row(there)).collect()
+    }
 }
 
 /// Asks one by one: how many are there.
@@ -117,16 +127,14 @@ fn in_rows(image: &[u8], rows: &[[u64; ROW]]) -> usize {
 pub fn run(setting: Setting, effort: Effort) -> [Times; 2] {
     let (image, mut source) = Source::new(setting);
     let images = [Lines::of(&image, None), Lines::of(&image, None)];
-    let rows_a_batch = effort.batch / ROW;
-    let asks = rows_a_batch * ROW;
+    let asks = effort.batch / ROW * ROW;
     let ways = [lone, in_rows];
     [true, false].map(|there| {
-        let mut batch =
-            |there| -> Vec<_> { (0..rows_a_batch).map(|_| source.row(there)).collect() };
+        let mut batch = |there| source.rows(there, asks);
         let inputs = || (batch(there), batch(false));
         let [lone, row] = in_turns(effort.rounds, inputs, |way, (rows, warm)| {
             let image: &[u8] = &images[way];
-            std::hint::black_box(ways[way](image, warm));
+            black_box(ways[way](image, warm));
             timed(wall_time, || ways[way](image, rows))
         });
         Times {
@@ -134,6 +142,37 @@ pub fn run(setting: Setting, effort: Effort) -> [Times; 2] {
             row: row / asks as f64,
         }
     })
+}
+
+/// Rows without the asks one by one, on an image in a file whose memory another process may have
+/// too.
+pub struct Alone {
+    start: Vec<u8>,
+    image: Lines,
+    source: Source,
+}
+
+impl Alone {
+    /// With an image and its members.
+    pub fn new(setting: Setting, (image, members): (&[u8], &[u64]), file: &File) -> Alone {
+        let random = Random::new(setting.b * 1000 + setting.load);
+        Alone {
+            start: image.to_vec(),
+            image: Lines::of(image, Some(file)),
+            source: Source::of(setting, random, members.to_vec()),
+        }
+    }
+
+    /// About so many asks for hashes that are there, or for others: ns an ask. The image is copied
+    /// anew, so that what another process asked for is not in the caches, and warmed by as many
+    /// asks for others.
+    pub fn time(&mut self, there: bool, asks: usize) -> f64 {
+        let [rows, warm] = [there, false].map(|there| self.source.rows(there, asks));
+        self.image.copy_from_slice(&self.start);
+        black_box(in_rows(&self.image, &warm));
+        let (_, ns) = timed(processor_time, || in_rows(&self.image, &rows));
+        ns / (ROW * rows.len()) as f64
+    }
 }
 
 #[cfg(test)]
