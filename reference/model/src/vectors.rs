@@ -1,7 +1,8 @@
 //! Replays calls of another model from text, and compares every answer and every byte.
 //!
-//! A line is `CALL = RESULT`; a line that begins with # starts a history, without images, and tells
-//! its stage: `at level 13` is that of request C-13. What stands in [ ] is there from stage 13 on.
+//! A line is `CALL = RESULT`; a line that begins with # starts a history, without images. `at level
+//! 13` in it is the stage of request C-13, and none that of document 01; what stands in [ ] is there
+//! from stage 13 on.
 //!
 //! ```text
 //! new R LENGTH         image R becomes so many zero bytes         = - SHA
@@ -61,9 +62,8 @@ fn text(answer: u64, values: impl Fn(u64) -> String) -> String {
 /// The stage of a history by the line that starts it; 0 where it tells none.
 fn stage_of(line: &str) -> u64 {
     let told = line.split_once(" at level ");
-    told.map_or(0, |(_, rest)| {
-        number(rest.split(':').next().unwrap_or(rest))
-    })
+    let told = told.and_then(|(_, rest)| rest.split(':').next());
+    told.map_or(0, number)
 }
 
 /// Reads, place, slot and copies of an ask, as far as they are told at this stage.
