@@ -57,7 +57,7 @@ placeOf (P.First i) = M.first i
 placeOf (P.Second i) = M.second i
 
 abbrev pub askedOf : AskResult → Result M.Asked
-askedOf (A.Accepted a) = M.asked (a .reads) (placeOf (a .place))
+askedOf (A.Accepted a) = accepted (record { reads = a .reads; place = placeOf (a .place); copies = a .copies })
 askedOf (A.Refused r) = refusal r
 
 abbrev pub countedOf : CountResult → Result M.Counted

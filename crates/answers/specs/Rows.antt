@@ -25,9 +25,9 @@ slotNumber (front i) = i
 slotNumber (first i) = i
 slotNumber (second i) = i
 
--- "each entry holding its hash and receiving its place and reads"; its copies are left alone
+-- "each entry holding its hash and receiving its place and reads", and the copies
 abbrev pub receivedOf : Entry → Asked → Entry
-receivedOf e a = record { hash = e .hash; reads = a .reads; place = placeNumber (a .place); slot = slotNumber (a .place); copies = e .copies }
+receivedOf e a = record { hash = e .hash; reads = a .reads; place = placeNumber (a .place); slot = slotNumber (a .place); copies = a .copies }
 
 abbrev pub hashes : List Entry → List ℕ
 hashes es = map (λ (e : Entry). e .hash) es

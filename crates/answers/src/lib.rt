@@ -37,10 +37,11 @@ pub enum Place {
     Second(usize),
 }
 
-// "An ask gives its reads and a place."
+// "An ask gives its reads and a place", and the copies "in the one bag where the ask ended", 0 for none.
 pub struct Asked {
     pub reads: u32,
     pub place: Place,
+    pub copies: usize,
 }
 
 // What an ask gives.

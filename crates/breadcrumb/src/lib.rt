@@ -39,7 +39,7 @@ pub fn delete(image: &mut [u8], hash: u64) -> ChangeResult
     deletion::delete::delete(image, hash)
 }
 
-// Where the fingerprint of a hash stands, and how many buckets were read to tell.
+// Where the fingerprint of a hash stands and how often there, and how many buckets were read to tell.
 pub fn ask(image: &[u8], hash: u64) -> AskResult
     ensures { λ r. ⌜ askedOf r ≡ askOf layout1 (now (image .entry)) hash ⌝ }
 {

@@ -10,7 +10,7 @@ use native.Mathlib.Omega.{arith}
 use lib.ListN.{length}
 use lib.Dec.{leb, ltb, eqb}
 use borrow.Author.Tests.{ltb-true, ltb-false}
-use Rattle.multiset.specs.Multisets.{Below, copies, slotOf, largest, added, removed}
+use Rattle.multiset.specs.Multisets.{Below, copies, Found, foundIn, largest, added, removed}
 use Rattle.multiset.proofs.MultisetLaws.{copies-le-length}
 use Rattle.crumbmap.specs.Layouts.{layout1, fronts, backyards}
 use Rattle.crumbmap.specs.Fingerprints.{frontOf, keyOf}
@@ -21,7 +21,7 @@ use Rattle.buckets.specs.Buckets.{carrying, frontMembers, backMembers}
 use Rattle.machine.specs.Results.{Result, accepted, refused, andThen, orUnsound, orRefused}
 use Rattle.machine.specs.Images.{sized, sizeOf, frontAt, backAt, putBack, bucketAt}
 use Rattle.machine.specs.Bags.{has, fromFirst}
-use Rattle.machine.specs.Machine.{Place, nowhere, front, first, second, changed, asked, counted, backyard, overflow, taker, takeIn, insertAt, takeOut, refill, deleteAt, askAt, countAt, membersAt}
+use Rattle.machine.specs.Machine.{Place, front, first, second, Asked, changed, asked, counted, backyard, overflow, taker, takeIn, insertAt, takeOut, refill, deleteAt, askAt, countAt, membersAt}
 use Rattle.machine.specs.Pages.{Run, runFrom, pageFrom}
 use Rattle.machine.specs.Checks.{orLater, unsoundFront, unsoundBack, bucketInTurn, early, checkSized}
 use Rattle.machine.specs.Merges.{insertAll, mergeFrom, mergeSized}
@@ -31,10 +31,10 @@ use Rattle.answers.specs.Pairs.{answerValue}
 use Rattle.machine.specs.Rows.{Row, rowOf}
 use Rattle.machine.specs.OccupancyPages.{pageLines, pageBytes, blankLine, lineAt, linesFrom, printFrom, occupancyOf}
 use Rattle.machine.proofs.OccupancyLaws.{line-members}
-use Rattle.machine.proofs.RowLaws.{row-total, row-refused}
-use Rattle.machine.proofs.RoomLaws.{frontAt-room, backAt-room, backyard-room, run-count, slotOf-lt}
+use Rattle.machine.proofs.RowLaws.{of-search, row-total, row-refused}
+use Rattle.machine.proofs.RoomLaws.{frontAt-room, backAt-room, backyard-room, run-count, found-room}
 use Rattle.capi.specs.Packing.{Within, taken, barred, nothing, placeWord, askWord, countWord, runWord, rowWord}
-use Rattle.capi.proofs.ResultLaws.{within-then, within-cond, within-found, within-unless}
+use Rattle.capi.proofs.ResultLaws.{within-then, within-cond, within-unless}
 
 abbrev cap : ℕ
 cap = 2 ^ 56
@@ -50,8 +50,13 @@ pass a = taken {a = a} (omega arith)
 changed-fits : (n : ℕ) (img : List ℕ) → n < cap → Within answerValue cap (changed n img)
 changed-fits n img h = taken h
 
-asked-fits : (n : ℕ) (p : Place) → n + placeWord p < cap → Within askWord cap (asked n p)
-asked-fits n p h = taken h
+asked-fits : (a : Asked) → askWord a < cap → Within askWord cap (accepted a)
+asked-fits a h = taken h
+
+-- what was found in a bucket of at most 64 members
+found-fits : (n x : ℕ) (xs : List ℕ) (bag : ℕ → Place) (s : Found) → foundIn x xs ≡ some s → length xs ≤ 64
+    → n + placeWord (bag (s .slot)) ≤ 64 + 256 * s .slot → Within askWord cap (asked n bag s)
+found-fits n x xs bag s e few h = let r = found-room x xs s e in asked-fits _ (omega (arith, r .0, r .1))
 
 counted-fits : (n c : ℕ) → c + 2 ^ 32 * n < cap → Within countWord cap (counted n c)
 counted-fits n c h = taken h
@@ -137,16 +142,16 @@ module _ (B f : ℕ) (img : List ℕ) (l : B ≤ 65536) (h : f < fronts B) where
   unfolding askAt
   askAt-fits x =
       within-then (frontAt layout1 f img) _ frontAt-sound (λ xs e.
-      within-found (slotOf x xs) _ _ (λ i s. asked-fits 1 (front i) (omega (arith, slotOf-lt x xs i s, frontAt-room layout1 f img xs e)))
+      of-search (Within askWord cap) (foundIn x xs) (λ s d. found-fits 1 x xs front s d (omega (arith, frontAt-room layout1 f img xs e)) (omega arith))
       (within-cond (eqb (length xs) (layout1 .frontSlots) && ltb (largest xs) x) _ _
       (λ _. within-then (backAt layout1 B (firstBucket f) img) _ (backAt-sound (firstBucket f) (bucketOf-lt true B f h)) (λ ys d.
-      within-found (slotOf (x * 16 + firstCrumb f) ys) _ _
-      (λ i s. asked-fits 2 (first i) (omega (arith, slotOf-lt (x * 16 + firstCrumb f) ys i s, backAt-room layout1 B (firstBucket f) img ys d)))
+      of-search (Within askWord cap) (foundIn (x * 16 + firstCrumb f) ys)
+      (λ s g. found-fits 2 (x * 16 + firstCrumb f) ys first s g (omega (arith, backAt-room layout1 B (firstBucket f) img ys d)) (omega arith))
       (within-then (backAt layout1 B (secondBucket B f) img) _ (backAt-sound (secondBucket B f) (bucketOf-lt false B f h)) (λ zs g.
-      within-found (slotOf (x * 16 + secondCrumb f) zs) _ _
-      (λ i s. asked-fits 3 (second i) (omega (arith, slotOf-lt (x * 16 + secondCrumb f) zs i s, backAt-room layout1 B (secondBucket B f) img zs g)))
-      (asked-fits 3 nowhere (omega arith))))))
-      (λ _. asked-fits 1 nowhere (omega arith))))
+      of-search (Within askWord cap) (foundIn (x * 16 + secondCrumb f) zs)
+      (λ s k. found-fits 3 (x * 16 + secondCrumb f) zs second s k (omega (arith, backAt-room layout1 B (secondBucket B f) img zs g)) (omega arith))
+      (asked-fits _ (omega arith))))))
+      (λ _. asked-fits _ (omega arith))))
 
   countAt-fits : (x : ℕ) → Within countWord cap (countAt layout1 B f x img)
   unfolding countAt

@@ -1,3 +1,4 @@
 -- Each call's answer fits its packing.
 pub mod ResultLaws
 pub mod FitLaws
+pub mod UnpackLaws

@@ -8,7 +8,6 @@ use mathlib.Core.List.{List}
 use native.Mathlib.Omega.{arith}
 use lib.ListN.{length}
 use Rattle.machine.specs.Results.{Result, accepted, refused, andThen}
-use Rattle.machine.specs.Machine.{found}
 use Rattle.machine.specs.Checks.{unless}
 use Rattle.machine.specs.Pages.{Run}
 use Rattle.machine.specs.Rows.{Row}
@@ -47,12 +46,6 @@ pub within-cond : {A : Type 0} {v : A → ℕ} {n : ℕ} (b : Bool) (x y : Resul
     → Within v n (cond b x y)
 within-cond true x y g h = g refl
 within-cond false x y g h = h refl
-
--- a search
-pub within-found : {A : Type 0} {v : A → ℕ} {n : ℕ} (o : Option ℕ) (k : ℕ → Result A) (r : Result A) → ((i : ℕ) → o ≡ some i → Within v n (k i))
-    → Within v n r → Within v n (found o k r)
-within-found none k r g h = h
-within-found (some i) k r g h = g i refl
 
 -- something found is refused
 pub within-unless : {n m : ℕ} (o : Option ℕ) (r : Result (Unit {0})) → m < 256 → ((i : ℕ) → o ≡ some i → i < n) → Within nothing n r

@@ -1,11 +1,13 @@
 -- An answer packed into one number, number × 2^56 + value, and the value of each call's answer.
-use Prim.Native.Nat.{ℕ, _+_, _*_, _^_, _<_}
+use mathlib.Core.Path.{_≡_}
+use Prim.Native.Nat.{ℕ, _+_, _*_, _/_, _%_, _^_, _<_}
 use lib.ListN.{length}
 use Rattle.machine.specs.Results.{Result, accepted, refused}
 use Rattle.machine.specs.Machine.{Asked, Counted, Place, nowhere, front, first, second}
 use Rattle.machine.specs.Pages.{Run}
 use Rattle.machine.specs.Rows.{Row}
 use Rattle.answers.specs.Pairs.{saidOf}
+use Rattle.answers.specs.Rows.{placeNumber, slotNumber}
 use Rattle.answers.specs.declared.pairs.Said.{Said}
 
 abbrev pub pack : Said → ℕ
@@ -30,7 +32,7 @@ pub record Packs (s : Said) : Type 0 where
 abbrev pub nothing : {A : Type 0} → A → ℕ
 nothing a = 0
 
--- ask: reads + 16 × place + 256 × slot, place 0 none, 1 front, 2 first, 3 second
+-- ask: reads + 16 × place + 256 × slot + 2^16 × copies, place 0 none, 1 front, 2 first, 3 second
 abbrev pub placeWord : Place → ℕ
 placeWord nowhere = 0
 placeWord (front i) = 16 + 256 * i
@@ -38,7 +40,14 @@ placeWord (first i) = 32 + 256 * i
 placeWord (second i) = 48 + 256 * i
 
 abbrev pub askWord : Asked → ℕ
-askWord a = a .reads + placeWord (a .place)
+askWord a = a .reads + placeWord (a .place) + 2 ^ 16 * a .copies
+
+-- what the header's macros take out of it again
+pub record Unpacks (w : ℕ) (a : Asked) : Type 0 where
+  pub reads : w % 16 ≡ a .reads
+  pub place : w / 16 % 16 ≡ placeNumber (a .place)
+  pub slot : w / 256 % 256 ≡ slotNumber (a .place)
+  pub copies : w / 2 ^ 16 ≡ a .copies
 
 -- count: copies + 2^32 × reads
 abbrev pub countWord : Counted → ℕ

@@ -64,7 +64,7 @@ pub extern "C" fn bcf_delete(image: &mut [u8], hash: u64) -> u64
     packed(changed(delete(image, hash)))
 }
 
-// Where a hash stands, and how many buckets were read to tell.
+// Where a hash stands and how often there, and how many buckets were read to tell.
 #[no_mangle]
 pub extern "C" fn bcf_ask(image: &[u8], hash: u64) -> u64
     ensures { λ r. ⌜ r ≡ P.packed P.askWord (askOf layout1 (now (image .entry)) hash) ⌝ }

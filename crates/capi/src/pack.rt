@@ -44,9 +44,11 @@ pub(crate) fn asked(given: AskResult) -> Said
     match given {
         AskResult::Accepted(found) => {
             let place = found.place;
+            let at = (found.reads as u64) + place_word(place);
+            let copies = 65536 * (found.copies as u64);
             Said {
                 number: 0,
-                value: (found.reads as u64) + place_word(place),
+                value: at + copies,
             }
         }
         AskResult::Refused(why) => refused(why),

@@ -1,8 +1,8 @@
 -- The contracts and the history theorem joined: demand 3 holds of the calls themselves (`demand`), and each backyard member in the image
--- that they left leads home (`calls-lead-home`), and its occupancy pages tell the ledger
+-- that they left leads home (`calls-lead-home`), the copies of an ask tell of the ledger (`calls-tell-copies`), and its occupancy pages tell the ledger
 -- (`calls-tell-occupancy`, `calls-show-occupancy`).
 use mathlib.Core.Path.{_≡_, refl, sym, _∙_, ap}
-use mathlib.Core.Logic.{_↔_}
+use mathlib.Core.Logic.{_↔_, inl, inr, ⊎-elim}
 use Prim.Native.Nat.{ℕ, _+_, _*_, _^_, _<_, _≤_}
 use mathlib.Core.List.{List, _++_}
 use lib.ListN.{length, take, drop, length-drop}
@@ -32,8 +32,9 @@ use Rattle.history.specs.Histories.{Call, History, Fits, Started, blocks, bytes
 use Rattle.history.specs.Ledgers.{ledger, smaller}
 use Rattle.history.specs.Refusals.{due}
 use Rattle.history.specs.Demand.{Holds}
+use Rattle.history.specs.Copies.{CopiesTold}
 use Rattle.history.specs.Occupancies.{filedIn, pageSaid, Shows}
-use Rattle.history.proofs.Theorem.{demand3-layout1, members-lead-home, occupancy-said, line-shows}
+use Rattle.history.proofs.Theorem.{demand3-layout1, members-lead-home, copies-told, occupancy-said, line-shows}
 use Rattle.catalogue.specs.Runs.{Performed, Happened}
 use Rattle.catalogue.specs.Delivery.{Demand, filed}
 use Rattle.machine.proofs.AcceptedLaws.{same-answer, never-refused}
@@ -48,8 +49,11 @@ count-accepted : (r : CountResult) (m : M.Counted) → countedOf r ≡ accepted 
 count-accepted (T.Accepted c) m e = (c, refl, ap (λ (x : M.Counted). x .copies) (same-answer e))
 count-accepted (T.Refused x) m e = absurd (refusal-never M.Counted x (ap number e))
 
-ask-accepted : (r : AskResult) (m : M.Asked) → askedOf r ≡ accepted m → (a : Asked) × (r ≡ A.Accepted a) × (a .reads ≡ m .reads) × (placeOf (a .place) ≡ m .place)
-ask-accepted (A.Accepted a) m e = (a, refl, ap (λ (x : M.Asked). x .reads) (same-answer e), ap (λ (x : M.Asked). x .place) (same-answer e))
+ask-accepted : (r : AskResult) (m : M.Asked) → askedOf r ≡ accepted m
+    → (a : Asked) × (r ≡ A.Accepted a) × (a .reads ≡ m .reads) × (placeOf (a .place) ≡ m .place) × (a .copies ≡ m .copies)
+ask-accepted (A.Accepted a) m e =
+    let s = same-answer e in
+    (a, refl, ap (λ (x : M.Asked). x .reads) s, ap (λ (x : M.Asked). x .place) s, ap (λ (x : M.Asked). x .copies) s)
 ask-accepted (A.Refused x) m e = absurd (refusal-never M.Asked x (ap number e))
 
 -- nowhere, in the code's words and in the machine's
@@ -80,11 +84,11 @@ module _ {h : History} {img : List ℕ} (happened : Happened h img) where
       × ((1 < a .reads) ↔ (layout1 .frontSlots ≤ smaller layout1 (ledger layout1 h) (frontOf (blocks h) k) (keyOf layout1 k)))
   ask-tells k r l e =
       let m = holds .asks k l in
-      let a = ask-accepted r _ ((rw left at e) ∙ m .2) in (
+      let a = ask-accepted r _ ((rw left at e) ∙ m .1) in (
         a .0,
         a .1,
-        ((λ other. m .3 .0 (λ none. other (nowhere-place _ (a .3 ∙ none)))), λ some none. m .3 .1 some (sym (a .3) ∙ ap placeOf none)),
-        rw (a .2) (m .4),
+        ((λ other. m .2 .0 (λ none. other (nowhere-place _ (a .3 ∙ none)))), λ some none. m .2 .1 some (sym (a .3) ∙ ap placeOf none)),
+        rw (a .2) (m .3),
       )
 
 pub demand : Demand
@@ -99,6 +103,23 @@ demand h img happened =
 -- and in the image that the calls left, each backyard member leads by its crumb back to a front bucket that is full, none larger than it
 pub calls-lead-home : {h : History} {img : List ℕ} → Happened h img → AllLeadHome layout1 (blocks h) img
 calls-lead-home {h} happened = rw (left happened) (members-lead-home layout1 fits1 h (started happened))
+
+-- and the copies that an ask of that image tells are 0 exactly where its place is none, N(g) at most, and N(g) where none can stand behind the front bucket
+pub calls-tell-copies : {h : History} {img : List ℕ} → Happened h img → (k : ℕ) (r : AskResult) → k < 2 ^ 64 → askedOf r ≡ askOf layout1 img k
+    → (a : Asked) × (r ≡ A.Accepted a) × CopiesTold layout1 h k (a .copies) (a .place ≡ P.Nowhere)
+calls-tell-copies {h} happened k r l e =
+    let m = copies-told layout1 fits1 h (started happened) k l in
+    let a = ask-accepted r _ ((rw (left happened) at e) ∙ m .1) in
+    let t = rw (sym (a .4)) at (m .2) in (
+      a .0,
+      a .1,
+      record {
+        none = ((λ z. nowhere-place _ (a .3 ∙ t .none .0 z)), λ q. t .none .1 (sym (a .3) ∙ ap placeOf q));
+        most = t .most;
+        all = λ c. t .all (⊎-elim (λ q. inl (sym (a .3) ∙ ap placeOf q)) (λ s. inr s) c);
+        few = t .few;
+      },
+    )
 
 -- and an occupancy page of that image prints what the ledger says: for each front bucket all of N over its fingerprints, split at 28
 pub calls-tell-occupancy : {h : History} {img : List ℕ} → Happened h img → (p : ℕ) (old new : List ℕ) (r : Outcome)

@@ -37,7 +37,7 @@ fingerprint-lt L n f x h k = digits-lt h k
 pub parts-high : (k a r : ℕ) → r < k → (a * k + r) / k ≡ a
 parts-high k a r h = mul-add-div-right {m = k} (omega arith) a r ∙ rw (div-eq-of-lt h) (add-zero a)
 
-parts-low : (k a r : ℕ) → r < k → (a * k + r) % k ≡ r
+pub parts-low : (k a r : ℕ) → r < k → (a * k + r) % k ≡ r
 parts-low k a r h = mul-add-mod-self-right a k r ∙ mod-eq-of-lt h
 
 pub fingerprint-unique : (L : Layout) (e f x y : ℕ) → x < keys L → y < keys L → fingerprint L e x ≡ fingerprint L f y → (e ≡ f) × (x ≡ y)

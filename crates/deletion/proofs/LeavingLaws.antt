@@ -2,13 +2,15 @@
 -- Main results: `least-member`, `least-nothing`, `copy-member`, `copy-nothing`.
 use mathlib.Core.Path.{_≡_, refl, sym}
 use Prim.Native.Nat.{ℕ, _+_, _*_, _≤_, _<_}
-use mathlib.Core.Bool.{Bool, true, false, cond}
+use mathlib.Core.Bool.{Bool, true, false}
 use mathlib.Core.List.{List, [], _∷_}
+use mathlib.Core.Option.{Option, none, some}
 use native.Mathlib.Nat.{le-antisymm}
 use native.Mathlib.Omega.{arith}
-use lib.Dec.{T, ltb}
-use borrow.Author.Tests.{lt-ltb, ltb-true, ltb-false}
-use Rattle.multiset.specs.Multisets.{copies, below, ascending}
+use lib.Dec.{T}
+use borrow.Author.Tests.{lt-ltb}
+use Rattle.multiset.specs.Multisets.{copies, ascending, Found, foundIn}
+use Rattle.multiset.proofs.RankLaws.{absent-copies, found-copies}
 use Rattle.multiset.proofs.MultisetLaws.{hit-same, copies-cons, copies-none}
 use Rattle.multiset.proofs.OrderLaws.{head-least}
 use Rattle.crumbmap.specs.Layouts.{Layout}
@@ -26,7 +28,7 @@ use Rattle.buckets.proofs.CarryLaws.{copies-carrying, ascending-carrying}
 use Rattle.image.specs.Steps.ImageReads.{BackRead, Reads}
 use Rattle.image.specs.declared.BackReading.{BackReading}
 use Rattle.image.proofs.ImageReadLaws.{both-read}
-use Rattle.deletion.specs.Steps.Deletions.{pickOf, departing, leastIn, copyIn, Leaves}
+use Rattle.deletion.specs.Steps.Deletions.{pickOf, departing, leaving, leastIn, copyIn, Leaves}
 use Rattle.deletion.specs.declared.Departure.{Departure}
 use Rattle.deletion.specs.declared.Leaving.{Leaving}
 use Rattle.deletion.specs.declared.Leaving.the-variants as W
@@ -61,32 +63,28 @@ module _ (L : Layout) (t : Bool) (B f : ℕ) (img : List ℕ) (w : Overflow) (le
       offer-list ys (carrying (w .crumb) ys) (rw same (ascending-carrying (w .crumb) (inBack L B (bucketOf t B f) img) (r .list .order))) same
       (rw (leads .bucket, leads .crumb))
 
-offer-copy : (L : Layout) (t : Bool) (B f x : ℕ) (img : List ℕ) (r : BackReading) → Reads L t B f x img r → Offers L B f img (just x) t (copyIn L B x r img)
-offer-copy L t B f x img r s = go (ltb 0 n) refl
+offer-copy : (L : Layout) (t : Bool) (B f x : ℕ) (img : List ℕ) (r : BackReading) → Reads L t B f x img r
+    → Offers L B f img (just x) t (copyIn L B x (r .way) img)
+offer-copy L t B f x img r s = go (foundIn y ys) refl
   where
-    n : ℕ
-    n = copies (x * 16 + r .way .crumb) (inBack L B (r .way .bucket .0) img)
+    y : ℕ
+    y = x * 16 + r .way .crumb
 
-    same : copies x (bagIn L B f t img) ≡ n
+    ys : List ℕ
+    ys = inBack L B (r .way .bucket .0) img
+
+    order : T (ascending ys)
+    order = rw (s .leads .bucket) (s .read .list .order)
+
+    same : copies x (bagIn L B f t img) ≡ copies y ys
     same = rw (s .leads .bucket, s .leads .crumb) (copies-carrying x (crumbOf t f) (inBack L B (bucketOf t B f) img) (crumbOf-lt t f))
 
-    go : (u : Bool) → ltb 0 n ≡ u → Offers L B f img (just x) t (cond u (W.Member (record { way = r .way; slot = r .below; key = x })) W.Nothing)
-    go true e = record {
-      wanted = refl;
-      leads = s .leads;
-      there = omega (arith, same, ltb-true 0 n e);
-      least = λ z q k. omega (arith, q);
-      slot = s .rank;
-    }
-    go false e = λ z q. rw q (omega (arith, same, ltb-false 0 n e))
-
--- as the code answers it, by the number of copies
-module _ (L : Layout) (B x : ℕ) (r : BackReading) (img : List ℕ) {n : ℕ} (e : n ≡ copies (x * 16 + r .way .crumb) (inBack L B (r .way .bucket .0) img)) where
-  pub copy-none : n ≡ 0 → W.Nothing ≡ copyIn L B x r img
-  copy-none z = rw (sym e, z)
-
-  pub copy-some : (n ≡ 0 → ⊥) → W.Member (record { way = r .way; slot = r .below; key = x }) ≡ copyIn L B x r img
-  copy-some z = rw (sym e, lt-ltb 0 n (omega arith))
+    go : (o : Option Found) → foundIn y ys ≡ o → Offers L B f img (just x) t (leaving (r .way) x o)
+    go (some a) e =
+        let there = found-copies y ys a order e in
+        let at = rw (s .leads .bucket, s .leads .crumb) at (there .0) in
+        record { wanted = refl; leads = s .leads; there = omega (arith, same, there .2); least = λ z q k. omega (arith, q); slot = at }
+    go none e = λ z q. rw q (omega (arith, same, absent-copies y ys order e))
 
 -- ---- what both offer
 
@@ -121,9 +119,9 @@ module _ {L : Layout} {B f x : ℕ} {img : List ℕ} {a b : BackReading} (p : Re
               (rw (copies-addedAll (d .key) xs ys) (m .there)) (λ z k. m .least z tt (rw (copies-addedAll z xs ys) at k)),
         )
 
-  module _ {r : Leaving} (said : r ≡ pickOf (copyIn L B x a img) (copyIn L B x b img) (a .members) (b .members)) where
+  module _ {r : Leaving} (said : r ≡ pickOf (copyIn L B x (a .way) img) (copyIn L B x (b .way) img) (a .members) (b .members)) where
     copy-picks : Picks L B f img (just x) r
-    copy-picks = rw said (picked L B f img (just x) (both-read p q) (a .members) (b .members) (p .many) (q .many) (copyIn L B x a img) (copyIn L B x b img)
+    copy-picks = rw said (picked L B f img (just x) (both-read p q) (a .members) (b .members) (p .many) (q .many) (copyIn L B x (a .way) img) (copyIn L B x (b .way) img)
         (offer-copy L true B f x img a p) (offer-copy L false B f x img b q))
 
     pub copy-nothing : r ≡ W.Nothing → has x (overflowIn L B f img) ≡ false

@@ -3,9 +3,10 @@
 use crate::Departure;
 use crate::Leaving;
 use image::BackReading;
-use image::back::copies_at;
+use image::back::find_at;
 use image::place::back_bucket;
 use search::Carried;
+use search::Search;
 use search::list::first_carrying;
 ghost use mathlib.Core.Path.{_≡_};
 ghost use Rattle.crumbmap.specs.Layouts.{layout1};
@@ -25,7 +26,7 @@ pub(crate) fn least(image: &[u8], size: usize, a: BackReading, b: BackReading) -
 // A copy of a key in First(f) or Second(f), whose buckets were read for it.
 pub(crate) fn copy(image: &[u8], size: usize, a: BackReading, b: BackReading, key: u32) -> Leaving
     requires { ⌜ ReadFor layout1 size key a (now image) × ReadFor layout1 size key b (now image) ⌝ }
-    ensures { λ r. ⌜ r ≡ pickOf (copyIn layout1 size key a (now (image .entry))) (copyIn layout1 size key b (now (image .entry))) (a .members) (b .members) ⌝ }
+    ensures { λ r. ⌜ r ≡ pickOf (copyIn layout1 size key (a .way) (now (image .entry))) (copyIn layout1 size key (b .way) (now (image .entry))) (a .members) (b .members) ⌝ }
 {
     let first = copy_in(image, size, a, key);
     let second = copy_in(image, size, b, key);
@@ -67,15 +68,11 @@ fn least_in(image: &[u8], size: usize, reading: BackReading) -> Leaving
 // A copy of a key in one of them, the lowest.
 fn copy_in(image: &[u8], size: usize, reading: BackReading, key: u32) -> Leaving
     requires { ⌜ ReadFor layout1 size key reading (now image) ⌝ }
-    ensures { λ r. ⌜ r ≡ copyIn layout1 size key reading (now (image .entry)) ⌝ }
+    ensures { λ r. ⌜ r ≡ copyIn layout1 size key (reading .way) (now (image .entry)) ⌝ }
 {
-    if copies_at(image, size, reading, key) == 0 {
-        return Leaving::Nothing;
-    }
     let way = reading.way;
-    Leaving::Member(Departure {
-        way,
-        slot: reading.below,
-        key,
-    })
+    let Search::At(slot, _) = find_at(image, size, reading, key) else {
+        return Leaving::Nothing;
+    };
+    Leaving::Member(Departure { way, slot, key })
 }

@@ -17,7 +17,8 @@ use image::back::read_backyard;
 use image::front::read_front_at;
 use image::place::bucket;
 use minifilter::Reading;
-use search::find::holds_front;
+use search::Search;
+use search::find::find_front;
 use search::find::largest_front;
 ghost use mathlib.Core.Path.{_≡_};
 ghost use Prim.Native.Nat.{_<_};
@@ -34,12 +35,12 @@ pub fn plan(image: &[u8], target: Target) -> DeletePlan
 {
     let front = target.front;
     let key = target.key;
-    let Reading::Members(n, slot) = read_front_at(image, front, key) else {
+    let Reading::Members(n, below) = read_front_at(image, front, key) else {
         return DeletePlan::Refused(Refusal::Unsound(front.0));
     };
-    if !holds_front(bucket(image, front.0), slot, key) {
+    let Search::At(slot, _) = find_front(bucket(image, front.0), below, key) else {
         return plan_other(image, target, n);
-    }
+    };
     if n < FRONT_SLOTS {
         return DeletePlan::Leaves(slot);
     }

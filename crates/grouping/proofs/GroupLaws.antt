@@ -9,7 +9,7 @@ use native.Mathlib.Omega.{arith}
 use lib.ListN.{length}
 use lib.Dec.{eqb, ltb, leb}
 use borrow.Author.Tests.{ltb-true, ltb-false, leb-true, leb-false, eqb-true, eqb-false, le-ltb}
-use Rattle.multiset.specs.Multisets.{slotOf, largest}
+use Rattle.multiset.specs.Multisets.{foundIn, largest}
 use Rattle.crumbmap.specs.Layouts.{Layout, keys, fronts}
 use Rattle.crumbmap.specs.Fingerprints.{frontOf, keyOf}
 use Rattle.crumbmap.specs.CrumbMap.{firstBucket, secondBucket, firstCrumb, secondCrumb, bucketOf}
@@ -19,7 +19,7 @@ use Rattle.buckets.specs.Buckets.{Fits64, frontMembers, backMembers}
 use Rattle.minifilter.specs.Steps.Readings.{readingOf}
 use Rattle.machine.specs.Results.{Result, accepted, refused, andThen}
 use Rattle.machine.specs.Images.{sizeOf, bucketAt, frontAt, backAt, inFront, inBack}
-use Rattle.machine.specs.Machine.{Asked, Place, asked, askAt}
+use Rattle.machine.specs.Machine.{Asked, askAt}
 use Rattle.machine.proofs.AcceptedLaws.{was-sound, same-answer, never-refused}
 use Rattle.machine.proofs.RowLaws.{of-search, of-test, ask-ends, asked-some, ask-refused}
 use Rattle.image.specs.Steps.ImageReads.{FrontIn, BackIn, FrontRead, BackRead, FrontSays, BackSays}
@@ -94,18 +94,18 @@ module _ {L : Layout} {B f reads : ℕ} {img : List ℕ} (group : GroupRead L B 
   abbrev Within : Result Asked → Type 0
   Within r = (a : Asked) × (r ≡ accepted a) × (a .reads ≤ reads)
 
-  ending : {n : ℕ} {p : Place} → n ≤ reads → Within (asked n p)
-  ending {n} {p} h = (record { reads = n; place = p }, refl, h)
+  ending : (a : Asked) → a .reads ≤ reads → Within (accepted a)
+  ending a h = (a, refl, h)
 
   -- where all three are read, and for a key that its front bucket settles
   all-asked : (x : ℕ) → 3 ≤ reads → Within (askAt L B f x img)
   unfolding askAt
   all-asked x h =
       rw (group .front (omega arith) .accepts, group .first (omega arith) .accepts, group .second (omega arith) .accepts)
-      (of-search Within (slotOf x xs) (λ i. ending (omega arith)) (of-test Within (eqb (length xs) (L .frontSlots) && ltb (largest xs) x)
-      (of-search Within (slotOf (x * 16 + firstCrumb f) (inBack L B (firstBucket f) img)) (λ i. ending (omega arith))
-      (of-search Within (slotOf (x * 16 + secondCrumb f) (inBack L B (secondBucket B f) img)) (λ i. ending h) (ending h)))
-      (ending (omega arith))))
+      (of-search Within (foundIn x xs) (λ s e. ending _ (omega arith)) (of-test Within (eqb (length xs) (L .frontSlots) && ltb (largest xs) x)
+      (of-search Within (foundIn (x * 16 + firstCrumb f) (inBack L B (firstBucket f) img)) (λ s e. ending _ (omega arith))
+      (of-search Within (foundIn (x * 16 + secondCrumb f) (inBack L B (secondBucket B f) img)) (λ s e. ending _ h) (ending _ h)))
+      (ending _ (omega arith))))
     where
       xs : List ℕ
       xs = inFront L f img
@@ -118,7 +118,7 @@ module _ {L : Layout} {B f reads : ℕ} {img : List ℕ} (group : GroupRead L B 
       xs = inFront L f img
 
       alone : (eqb (length xs) (L .frontSlots) && ltb (largest xs) x) ≡ false → Within (askAt L B f x img)
-      alone e = rw (group .front p .accepts, e) (of-search Within (slotOf x xs) (λ i. ending p) (ending p))
+      alone e = rw (group .front p .accepts, e) (of-search Within (foundIn x xs) (λ s e. ending _ p) (ending _ p))
 
       go : (b : Bool) → eqb (length xs) (L .frontSlots) ≡ b → Within (askAt L B f x img)
       go true e = alone (rw (e, le-ltb (largest xs) x (omega (arith, rw e at h))))

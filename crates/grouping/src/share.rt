@@ -9,13 +9,15 @@ use crumbmap::layout::FRONT_SLOTS;
 use crumbmap::layout::KEYS;
 use crumbmap::map::first_of;
 use crumbmap::map::second_of;
+use image::BackReading;
+use image::back::find_at;
+use image::back::read_back_at;
 use image::back::seek_at;
 use image::front::read_front_at;
 use image::place::bucket;
-use lookup::Sought;
-use lookup::ask::seek;
+use image::place::table_of;
 use minifilter::Reading;
-use search::find::NOWHERE;
+use search::Search;
 use search::find::count_front;
 use search::find::largest_front;
 ghost use mathlib.Core.Path.{_≡_};
@@ -163,11 +165,24 @@ fn share_first(image: &[u8], size: usize, front: Front, key: u32) -> Shared
     requires { ⌜ FrontIn size (front .0) (now image) × (key < keys layout1) × Exceeds layout1 (front .0) key (now image) ⌝ }
     ensures { λ r. ⌜ sharedOf r ≡ sharing layout1 size (front .0) key (now (image .entry)) 1 ⌝ }
 {
-    match seek(image, size, first_of(front, size), key) {
-        Sought::Unsound(table) => Shared::Unsound(table),
-        Sought::At(_) => Shared::Read(2),
-        Sought::Absent => share_second(image, size, front, key, 1),
-    }
+    let way = first_of(front, size);
+    let Reading::Members(members, below) = read_back_at(
+        image,
+        size,
+        way.bucket,
+        key * 16 + way.crumb,
+    ) else {
+        return Shared::Unsound(table_of(size, way.bucket));
+    };
+    let reading = BackReading {
+        way,
+        members,
+        below,
+    };
+    let Search::At(_, _) = find_at(image, size, reading, key) else {
+        return share_second(image, size, front, key, 1);
+    };
+    Shared::Read(2)
 }
 
 // b0 was read.
@@ -176,20 +191,20 @@ fn share_again(image: &[u8], size: usize, front: Front, key: u32) -> Shared
         × BackRead layout1 size (firstBucket (front .0)) (now image) ⌝ }
     ensures { λ r. ⌜ sharedOf r ≡ sharing layout1 size (front .0) key (now (image .entry)) 2 ⌝ }
 {
-    if seek_at(image, size, first_of(front, size), key) < NOWHERE {
-        return Shared::Read(2);
-    }
-    share_second(image, size, front, key, 2)
+    let Search::At(_, _) = seek_at(image, size, first_of(front, size), key) else {
+        return share_second(image, size, front, key, 2);
+    };
+    Shared::Read(2)
 }
 
-// b1 is read, for a key that is not in b0.
+// b1 is read, for a key that is not in b0; whether it is there makes no difference to the reads.
 fn share_second(image: &[u8], size: usize, front: Front, key: u32, reads: u32) -> Shared
     requires { ⌜ FrontIn size (front .0) (now image) × (key < keys layout1) × PastFirst layout1 size (front .0) key (now image) × (reads < 3) ⌝ }
     ensures { λ r. ⌜ sharedOf r ≡ sharing layout1 size (front .0) key (now (image .entry)) reads ⌝ }
 {
-    match seek(image, size, second_of(front, size), key) {
-        Sought::Unsound(table) => Shared::Unsound(table),
-        Sought::At(_) => Shared::Read(3),
-        Sought::Absent => Shared::Read(3),
-    }
+    let way = second_of(front, size);
+    let Reading::Members(_, _) = read_back_at(image, size, way.bucket, key * 16 + way.crumb) else {
+        return Shared::Unsound(table_of(size, way.bucket));
+    };
+    Shared::Read(3)
 }

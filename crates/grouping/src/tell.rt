@@ -9,7 +9,7 @@ use crumbmap::map::first_of;
 use crumbmap::map::second_of;
 use image::back::seek_at;
 use image::place::bucket;
-use search::find::NOWHERE;
+use search::Search;
 use search::find::seek_front;
 ghost use mathlib.Core.Path.{_≡_};
 ghost use Prim.Native.Nat.{_<_, _^_};
@@ -27,14 +27,15 @@ pub fn tell(image: &[u8], size: usize, e: Entry) -> Entry
 {
     let front = front_of(e.hash, size);
     let key = key_of(e.hash);
-    let slot = seek_front(bucket(image, front.0), key);
-    if slot < NOWHERE {
-        return answered(e, 1, 1, slot);
+    match seek_front(bucket(image, front.0), key) {
+        Search::At(slot, copies) => answered(e, 1, 1, slot, copies),
+        Search::Absent => {
+            if key < reach(image, front) {
+                return answered(e, 1, 0, 0, 0);
+            }
+            tell_behind(image, size, front, key, e)
+        }
     }
-    if key < reach(image, front) {
-        return answered(e, 1, 0, 0);
-    }
-    tell_behind(image, size, front, key, e)
 }
 
 // The same for a key that exceeds the largest of a full front bucket.
@@ -43,27 +44,25 @@ fn tell_behind(image: &[u8], size: usize, front: Front, key: u32, e: Entry) -> E
         × (number (askAt layout1 size (front .0) key (now image)) ≡ 0) ⌝ }
     ensures { λ r. ⌜ r ≡ toldBy e (askAt layout1 size (front .0) key (now (image .entry))) ⌝ }
 {
-    let first = seek_at(image, size, first_of(front, size), key);
-    if first < NOWHERE {
-        return answered(e, 2, 2, first);
+    match seek_at(image, size, first_of(front, size), key) {
+        Search::At(slot, copies) => answered(e, 2, 2, slot, copies),
+        Search::Absent => match seek_at(image, size, second_of(front, size), key) {
+            Search::At(slot, copies) => answered(e, 3, 3, slot, copies),
+            Search::Absent => answered(e, 3, 0, 0, 0),
+        },
     }
-    let second = seek_at(image, size, second_of(front, size), key);
-    if second < NOWHERE {
-        return answered(e, 3, 3, second);
-    }
-    answered(e, 3, 0, 0)
 }
 
-// An entry receives its reads, place and slot.
-fn answered(e: Entry, reads: u32, place: u32, slot: usize) -> Entry
-    requires { ⌜ slot < 2 ^ 32 ⌝ }
-    ensures { λ r. ⌜ r ≡ filled e reads place slot ⌝ }
+// An entry receives its reads, place and slot, and the copies there.
+fn answered(e: Entry, reads: u32, place: u32, slot: usize, copies: usize) -> Entry
+    requires { ⌜ (slot < 2 ^ 32) × (copies < 2 ^ 32) ⌝ }
+    ensures { λ r. ⌜ r ≡ filled e reads place slot copies ⌝ }
 {
     Entry {
         hash: e.hash,
         reads,
         place,
         slot: slot as u32,
-        copies: e.copies,
+        copies: copies as u32,
     }
 }

@@ -17,8 +17,9 @@ use Rattle.crumbmap.specs.Fingerprints.{frontOf, keyOf, fingerprint}
 use Rattle.crumbmap.proofs.FingerprintLaws.{frontOf-lt, keyOf-lt, fingerprint-lt, fingerprint-unique}
 use Rattle.buckets.specs.Buckets.{Fits64}
 use Rattle.machine.specs.Results.{Result, accepted, refused, number}
-use Rattle.machine.specs.Images.{sizeOf}
-use Rattle.machine.specs.Machine.{full, insertAt, deleteAt, Place, nowhere}
+use Rattle.machine.specs.Images.{sizeOf, inFront}
+use Rattle.machine.specs.Machine.{full, insertAt, deleteAt, Asked, nowhere}
+use Rattle.machine.specs.Copies.{Told}
 use Rattle.machine.specs.Pages.{pageFrom}
 use Rattle.machine.specs.Merges.{mergeSized}
 use Rattle.machine.specs.Calls.{freshOf, insertOf, deleteOf, askOf, countOf, pageOf, mergeOf, written}
@@ -174,10 +175,11 @@ module _ (L : Layout) (fits : Fits64 L) (B : ℕ) (img : List ℕ) (N : ℕ → 
       sum-shifted N (f * keys L) 0 x
       ∙ sum-alike (λ (y : ℕ). N (fingerprint L f y)) (λ (y : ℕ). total L B f y img) 0 x (λ y l m. keep .says f y h (omega arith))
 
-  -- an ask is yes exactly when N(g) > 0, its reads more than 1 exactly when the smaller members fill the front bucket
-  pub ask-ledger : (k : ℕ) → k < 2 ^ 64 → (n : ℕ) × (p : Place) × (askOf L img k ≡ accepted (record { reads = n; place = p }))
-      × ((p ≡ nowhere → ⊥) ↔ (0 < N (fingerprintOf L B k)))
-      × ((1 < n) ↔ (L .frontSlots ≤ smaller L N (frontOf B k) (keyOf L k)))
+  -- an ask is yes exactly when N(g) > 0, its reads more than 1 exactly when the smaller members fill the front bucket; and what its copies tell of N(g)
+  pub ask-ledger : (k : ℕ) → k < 2 ^ 64 → (a : Asked) × (askOf L img k ≡ accepted a)
+      × ((a .place ≡ nowhere → ⊥) ↔ (0 < N (fingerprintOf L B k)))
+      × ((1 < a .reads) ↔ (L .frontSlots ≤ smaller L N (frontOf B k) (keyOf L k)))
+      × Told L (inFront L (frontOf B k) img) (keyOf L k) (smaller L N (frontOf B k) (keyOf L k)) (N (fingerprintOf L B k)) (a .copies) (a .place ≡ nowhere)
   unfolding askOf
   ask-ledger k h =
       rw (keep .good .size, ledger-total k h, smaller-ledger (frontOf B k) (keyOf L k) (front-lt k h) (key-lt k))
@@ -281,7 +283,7 @@ module _ (L : Layout) (fits : Fits64 L) where
   unfolding due
   call-due h s (insert k) l = insert-step L fits (blocks h) (bytesAfter L h) (ledger L h) (keeps h s) k l .0
   call-due h s (delete k) l = delete-step L fits (blocks h) (bytesAfter L h) (ledger L h) (keeps h s) k l .0
-  call-due h s (ask k) l = rw (ask-ledger L fits (blocks h) (bytesAfter L h) (ledger L h) (keeps h s) k l .2) refl
+  call-due h s (ask k) l = rw (ask-ledger L fits (blocks h) (bytesAfter L h) (ledger L h) (keeps h s) k l .1) refl
   call-due h s (count k) l = rw (count-ledger L fits (blocks h) (bytesAfter L h) (ledger L h) (keeps h s) k l .1) refl
   call-due h s (page from room) l = page-due L fits (blocks h) (bytesAfter L h) (ledger L h) (keeps h s) from room
 

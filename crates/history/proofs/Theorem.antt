@@ -1,7 +1,8 @@
 -- Demand 3, for every layout whose buckets fit 64 bytes (`demand3`) and at layout 1 (`demand3-layout1`): after every history each call
 -- was refused exactly where it is due, counts and asks tell the ledger, and a full walk lists it.
 -- Beside it: check accepts every history's image (`check-accepts`), so each backyard member in it leads home (`members-lead-home`), and a
--- merge of two is refused only when full (`merge-refused-only-full`); an occupancy page tells the ledger (`occupancy-said`, `line-said`, `line-shows`).
+-- merge of two is refused only when full (`merge-refused-only-full`); what the copies of an ask tell of the ledger (`copies-told`); an occupancy page
+-- tells the ledger (`occupancy-said`, `line-said`, `line-shows`).
 use mathlib.Core.Path.{_≡_, sym, _∙_}
 use mathlib.Core.Logic.{_⊎_}
 use Prim.Native.Nat.{ℕ, _+_, _*_, _-_, _^_, _≤_, _<_}
@@ -15,11 +16,13 @@ use Rattle.buckets.specs.Buckets.{Fits64}
 use Rattle.buckets.proofs.BucketLaws.{fits1}
 use Rattle.machine.specs.Results.{accepted, number}
 use Rattle.machine.specs.Homes.{AllLeadHome}
-use Rattle.machine.specs.Calls.{checkOf, mergeOf}
+use Rattle.machine.specs.Machine.{Asked, nowhere}
+use Rattle.machine.specs.Calls.{askOf, checkOf, mergeOf}
 use Rattle.machine.specs.OccupancyPages.{pageLines, lineBytes, pageBytes, printFrom, occupancyOf, lineWith, lineOf}
 use Rattle.history.specs.Histories.{History, Started, blocks, bytesAfter}
 use Rattle.history.specs.Ledgers.{ledger}
 use Rattle.history.specs.Demand.{Demand3}
+use Rattle.history.specs.Copies.{CopiesTold}
 use Rattle.history.specs.Occupancies.{filedIn, pageSaid, Shows}
 use Rattle.machine.proofs.Invariant.{Good}
 use Rattle.machine.proofs.CheckLaws.{check-good}
@@ -40,7 +43,7 @@ demand3 L fits h s =
     record {
       refusals = all-due L fits h s;
       counts = count-ledger L fits (blocks h) (bytesAfter L h) (ledger L h) keep;
-      asks = ask-ledger L fits (blocks h) (bytesAfter L h) (ledger L h) keep;
+      asks = λ k l. let t = ask-ledger L fits (blocks h) (bytesAfter L h) (ledger L h) keep k l in (t .0, t .1, t .2, t .3);
       walks = λ N gs w. full-walk L fits w s;
     }
 
@@ -72,6 +75,11 @@ module _ (L : Layout) (fits : Fits64 L) where
       let g : Good L (blocks a) (bytesAfter L b) = rw same at gb in
       rw (mergeOf-at L fits (blocks a) (bytesAfter L a) (bytesAfter L b) old (ga .size) (g .size) (rw (← p) (ga .size)))
       (merge-number L fits (blocks a) (bytesAfter L a) (bytesAfter L b) ga g)
+
+  -- the copies that an ask tells after a history: 0 exactly where the place is none, N(g) at most, and N(g) where none can stand behind the front bucket
+  pub copies-told : (h : History) → Started L h → (k : ℕ) → k < 2 ^ 64 → (a : Asked) × (askOf L (bytesAfter L h) k ≡ accepted a)
+      × CopiesTold L h k (a .copies) (a .place ≡ nowhere)
+  copies-told h s k l = let t = ask-ledger L fits (blocks h) (bytesAfter L h) (ledger L h) (keeps L fits h s) k l in (t .0, t .1, t .4)
 
   -- an occupancy page after a history is the one that its ledger says
   pub occupancy-said : (h : History) → Started L h → (p room : ℕ) → occupancyOf L (bytesAfter L h) p room ≡ pageSaid L h p room

@@ -8,7 +8,7 @@ use Rattle.multiset.specs.Multisets.{copies, ascending}
 use Rattle.crumbmap.specs.Layouts.{Layout}
 use Rattle.crumbmap.specs.Fingerprints.{frontOf, keyOf}
 use Rattle.machine.specs.Results.{accepted}
-use Rattle.machine.specs.Machine.{Place, nowhere}
+use Rattle.machine.specs.Machine.{Asked, nowhere}
 use Rattle.machine.specs.Calls.{askOf, countOf}
 use Rattle.history.specs.Histories.{History, Started, blocks, bytesAfter}
 use Rattle.history.specs.Ledgers.{fingerprintOf, ledger, smaller}
@@ -24,9 +24,9 @@ module _ (L : Layout) where
     pub counts : (k : ℕ) → k < 2 ^ 64 → (n : ℕ) × (countOf L (bytesAfter L h) k ≡ accepted (record { reads = n; copies = ledger L h (fingerprintOf L (blocks h) k) }))
     -- "an ask for g is yes, its place other than none, exactly when N(g) > 0"; "its reads are more than 1 exactly when
     -- the smaller members that remain .. are at least 28"
-    pub asks : (k : ℕ) → k < 2 ^ 64 → (n : ℕ) × (p : Place) × (askOf L (bytesAfter L h) k ≡ accepted (record { reads = n; place = p }))
-        × ((p ≡ nowhere → ⊥) ↔ (0 < ledger L h (fingerprintOf L (blocks h) k)))
-        × ((1 < n) ↔ (L .frontSlots ≤ smaller L (ledger L h) (frontOf (blocks h) k) (keyOf L k)))
+    pub asks : (k : ℕ) → k < 2 ^ 64 → (a : Asked) × (askOf L (bytesAfter L h) k ≡ accepted a)
+        × ((a .place ≡ nowhere → ⊥) ↔ (0 < ledger L h (fingerprintOf L (blocks h) k)))
+        × ((1 < a .reads) ↔ (L .frontSlots ≤ smaller L (ledger L h) (frontOf (blocks h) k) (keyOf L k)))
     -- "the entries they wrote, joined in order, are every g N(g) times .. ascending"
     pub walks : (N : ℕ → ℕ) (gs : List ℕ) → FullWalk L h N gs → T (ascending gs) × ((g : ℕ) → copies g gs ≡ N g)
 

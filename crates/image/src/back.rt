@@ -12,14 +12,15 @@ use edits::edit::insert_back;
 use edits::edit::remove_back;
 use minifilter::Reading;
 use minifilter::read::read_back;
-use search::find::copies_back;
+use search::Search;
+use search::find::find_back;
 use search::find::seek_back;
 ghost use mathlib.Core.Path.{_≡_};
-ghost use Prim.Native.Nat.{_+_, _*_, _<_, _≤_};
-ghost use Rattle.multiset.specs.Multisets.{copies, slotOf, added, removed};
+ghost use Prim.Native.Nat.{_+_, _*_, _<_};
+ghost use Rattle.multiset.specs.Multisets.{foundIn, added, removed};
 ghost use Rattle.crumbmap.specs.Layouts.{layout1, keys};
 ghost use Rattle.crumbmap.specs.Steps.Places.{LeadsBoth};
-ghost use Rattle.search.specs.Steps.Searches.{seatOf};
+ghost use Rattle.search.specs.Steps.Searches.{searchOf};
 ghost use Rattle.machine.specs.Images.{inBack, putBack};
 ghost use Rattle.image.specs.Steps.ImageReads.{At, FrontIn, BackIn, BackRead, BackSays, BackyardSays, BagRead, ReadFor, BackJoin};
 
@@ -89,21 +90,20 @@ pub fn read_backyard(
     )
 }
 
-// The copies of a key in a backyard bucket that was read for it, with the crumb that it carries there.
-pub fn copies_at(image: &[u8], size: usize, reading: BackReading, key: u32) -> usize
+// Where a key stands in a backyard bucket that was read for it, with the crumb that it carries there.
+pub fn find_at(image: &[u8], size: usize, reading: BackReading, key: u32) -> Search
     requires { ⌜ ReadFor layout1 size key reading (now image) ⌝ }
-    ensures { λ r. ⌜ (r ≡ copies (key * 16 + reading .way .crumb) (inBack layout1 size (reading .way .bucket .0) (now (image .entry))))
-        × (r ≤ layout1 .backSlots) ⌝ }
+    ensures { λ r. ⌜ r ≡ searchOf (foundIn (key * 16 + reading .way .crumb) (inBack layout1 size (reading .way .bucket .0) (now (image .entry)))) ⌝ }
 {
     let way = reading.way;
     let b = back_bucket(image, size, way.bucket);
-    copies_back(b, reading.below, key * 16 + way.crumb)
+    find_back(b, reading.below, key * 16 + way.crumb)
 }
 
-// The lowest slot of a key in a backyard bucket that was read, with the crumb that it carries there, or NOWHERE.
-pub fn seek_at(image: &[u8], size: usize, way: Overflow, key: u32) -> usize
+// The same where the bucket was read before, for another key.
+pub fn seek_at(image: &[u8], size: usize, way: Overflow, key: u32) -> Search
     requires { ⌜ BagRead layout1 size way (now image) × (key < keys layout1) ⌝ }
-    ensures { λ r. ⌜ r ≡ seatOf layout1 (slotOf (key * 16 + way .crumb) (inBack layout1 size (way .bucket .0) (now (image .entry)))) ⌝ }
+    ensures { λ r. ⌜ r ≡ searchOf (foundIn (key * 16 + way .crumb) (inBack layout1 size (way .bucket .0) (now (image .entry)))) ⌝ }
 {
     seek_back(back_bucket(image, size, way.bucket), key * 16 + way.crumb)
 }

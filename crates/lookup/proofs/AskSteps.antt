@@ -8,22 +8,26 @@ use mathlib.Core.Option.{Option, none, some}
 use native.Mathlib.Omega.{arith}
 use lib.ListN.{length}
 use borrow.Author.Tests.{eq-eqb, ne-eqb, lt-ltb, le-ltb}
-use Rattle.multiset.specs.Multisets.{copies, slotOf, largest}
-use Rattle.multiset.proofs.RankLaws.{slotOf-some, slotOf-none}
+use Rattle.multiset.specs.Multisets.{Found, foundIn, largest}
+use Rattle.multiset.proofs.RankLaws.{found-none}
 use Rattle.crumbmap.specs.Layouts.{Layout, fronts}
 use Rattle.crumbmap.specs.CrumbMap.{secondBucket, secondCrumb, bucketOf, crumbOf}
 use Rattle.crumbmap.specs.Steps.Places.{Leads}
 use Rattle.crumbmap.specs.declared.Overflow.{Overflow}
-use Rattle.buckets.specs.Buckets.{frontList, backMembers}
+use Rattle.buckets.specs.Buckets.{backMembers}
+use Rattle.search.specs.Steps.Searches.{searchOf}
+use Rattle.search.specs.declared.Search.{Search}
+use Rattle.search.specs.declared.Search.the-variants.{At, Absent}
+use Rattle.search.proofs.FoundLaws.{search-some, search-none}
 use Rattle.machine.specs.Results.{Result, refused, andThen, orUnsound}
 use Rattle.machine.specs.Images.{bucketAt, frontAt, backAt, inFront}
-use Rattle.machine.specs.Machine.{Asked, asked, nowhere, front, first, second, found, askAt}
+use Rattle.machine.specs.Machine.{Asked, asked, denied, front, first, second, found, askAt}
 use Rattle.image.specs.Steps.ImageReads.{Exceeds}
 use Rattle.image.proofs.ImageReadLaws.{exceeds-absent}
-use Rattle.lookup.specs.Steps.Lookups.{atSlot, soughtIn}
+use Rattle.lookup.specs.Steps.Lookups.{soughtBy, soughtIn}
 use Rattle.lookup.specs.declared.Sought.{Sought}
 use Rattle.lookup.specs.declared.Sought.the-variants as S
-use Rattle.lookup.proofs.FrontSteps.{Holds, holds-all, copies-found, largest-found}
+use Rattle.lookup.proofs.FrontSteps.{Holds, holds-all}
 
 -- ---- in front
 
@@ -31,82 +35,78 @@ pub ask-unsound : (L : Layout) (B f x : ℕ) (img : List ℕ) {i : ℕ} → fron
 unfolding askAt
 ask-unsound L B f x img e = rw e
 
--- the bucket was read, and m copies of x were found in its bytes
-module _ {L : Layout} (B : ℕ) {f x n slot : ℕ} {img : List ℕ} (h : Holds L f x img n slot) {lent : List ℕ} (bytes : lent ≡ bucketAt f img)
-    {m : ℕ} (found : m ≡ copies x (frontList L lent)) where
-  here : m ≡ copies x (inFront L f img)
-  here = copies-found h bytes found
-
-  pub ask-here : 0 < m → asked 1 (front slot) ≡ askAt L B f x img
+-- the bucket was read, and searched for x
+module _ {L : Layout} (B : ℕ) {f x n slot : ℕ} {img : List ℕ} (h : Holds L f x img n slot) {r : Search}
+    (said : r ≡ searchOf (foundIn x (inFront L f img))) where
+  pub ask-here : {i m : ℕ} → r ≡ At i m → asked 1 front (record { slot = i; copies = m }) ≡ askAt L B f x img
   unfolding askAt
-  ask-here k = rw (h .rank, h .read .accepts, slotOf-some x (inFront L f img) (h .read .list .order) (omega (arith, here)))
+  ask-here e = rw (h .read .accepts, search-some (foundIn x (inFront L f img)) said e)
 
-  pub ask-few : m ≡ 0 → n < L .frontSlots → asked 1 nowhere ≡ askAt L B f x img
+  pub ask-few : r ≡ Absent → n < L .frontSlots → denied 1 ≡ askAt L B f x img
   unfolding askAt
-  ask-few k l = rw (
+  ask-few e l = rw (
     h .read .accepts,
-    slotOf-none x (inFront L f img) (omega (arith, here)),
+    search-none (foundIn x (inFront L f img)) said e,
     ne-eqb (length (inFront L f img)) (L .frontSlots) (λ e. omega (arith, h .many)),
   )
 
-  module _ (full : L .frontSlots ≤ n) {top : ℕ} (most : top ≡ largest (frontList L lent)) where
-    pub ask-low : m ≡ 0 → x ≤ top → asked 1 nowhere ≡ askAt L B f x img
-    unfolding askAt
-    ask-low k l = rw (
-      h .read .accepts,
-      slotOf-none x (inFront L f img) (omega (arith, here)),
-      eq-eqb (length (inFront L f img)) (L .frontSlots) (holds-all h full .full),
-      le-ltb (largest (inFront L f img)) x (omega (arith, largest-found h bytes most)),
-    )
+  pub ask-low : r ≡ Absent → L .frontSlots ≤ n → {top : ℕ} → top ≡ largest (inFront L f img) → x ≤ top → denied 1 ≡ askAt L B f x img
+  unfolding askAt
+  ask-low e full most l = rw (
+    h .read .accepts,
+    search-none (foundIn x (inFront L f img)) said e,
+    eq-eqb (length (inFront L f img)) (L .frontSlots) (holds-all h full .full),
+    le-ltb (largest (inFront L f img)) x (omega (arith, most)),
+  )
 
 -- all are smaller
-pub exceeds : {L : Layout} {f x n slot : ℕ} {img : List ℕ} (h : Holds L f x img n slot) {lent : List ℕ} → lent ≡ bucketAt f img → L .frontSlots ≤ n
-    → {top : ℕ} → top ≡ largest (frontList L lent) → top < x → Exceeds L f x img
-exceeds h bytes full most l = record { whole = holds-all h full; over = omega (arith, largest-found h bytes most) }
+pub exceeds : {L : Layout} {f x n slot : ℕ} {img : List ℕ} (h : Holds L f x img n slot) → L .frontSlots ≤ n
+    → {top : ℕ} → top ≡ largest (inFront L f img) → top < x → Exceeds L f x img
+exceeds h full most l = record { whole = holds-all h full; over = omega (arith, most) }
 
 -- ---- behind it
 
 -- what an ask gives by what was found in a backyard bucket
-abbrev pub sought : (ℕ → Result Asked) → Result Asked → Sought → Result Asked
-sought at other (S.At i) = at i
+abbrev pub sought : (Found → Result Asked) → Result Asked → Sought → Result Asked
+sought at other (S.At i n) = at (record { slot = i; copies = n })
 sought at other S.Absent = other
 sought at other (S.Unsound i) = refused 3 i
 
-slotted : (at : ℕ → Result Asked) (other : Result Asked) (o : Option ℕ) → found o at other ≡ sought at other (atSlot o)
-slotted at other none = refl
-slotted at other (some i) = refl
+by-found : (at : Found → Result Asked) (other : Result Asked) (o : Option Found) → found o at other ≡ sought at other (soughtBy o)
+by-found at other none = refl
+by-found at other (some s) = refl
 
-seeking : (i y : ℕ) (at : ℕ → Result Asked) (other : Result Asked) (o : Option (List ℕ))
-    → andThen (orUnsound i o) (λ ys. found (slotOf y ys) at other) ≡ sought at other (soughtIn y (orUnsound i o))
+seeking : (i y : ℕ) (at : Found → Result Asked) (other : Result Asked) (o : Option (List ℕ))
+    → andThen (orUnsound i o) (λ ys. found (foundIn y ys) at other) ≡ sought at other (soughtIn y (orUnsound i o))
 seeking i y at other none = refl
-seeking i y at other (some ys) = slotted at other (slotOf y ys)
+seeking i y at other (some ys) = by-found at other (foundIn y ys)
 
 -- the search of b1
 unfoldable pub secondly : Layout → ℕ → ℕ → ℕ → List ℕ → Result Asked
 secondly L B f x img =
     andThen (backAt L B (secondBucket B f) img) λ zs.
-    found (slotOf (x * 16 + secondCrumb f) zs) (λ i. asked 3 (second i)) (asked 3 nowhere)
+    found (foundIn (x * 16 + secondCrumb f) zs) (asked 3 second) (denied 3)
 
 -- the bucket that a choice leads to was sought in, and r was found
 module _ (L : Layout) (B f x : ℕ) (img : List ℕ) {w : Overflow} {o r : Sought}
     (said : o ≡ soughtIn (x * 16 + w .crumb) (backAt L B (w .bucket .0) img)) (told : o ≡ r) where
-  seeks : (t : Bool) → Leads t B f w → (at : ℕ → Result Asked) (other : Result Asked)
-      → andThen (backAt L B (bucketOf t B f) img) (λ ys. found (slotOf (x * 16 + crumbOf t f) ys) at other) ≡ sought at other r
+  seeks : (t : Bool) → Leads t B f w → (at : Found → Result Asked) (other : Result Asked)
+      → andThen (backAt L B (bucketOf t B f) img) (λ ys. found (foundIn (x * 16 + crumbOf t f) ys) at other) ≡ sought at other r
   unfolding backAt
   seeks t leads at other = rw (sym told, said, leads .bucket, leads .crumb) (seeking (fronts B + bucketOf t B f) (x * 16 + crumbOf t f) at other
       (backMembers L B (bucketOf t B f) (bucketAt (fronts B + bucketOf t B f) img)))
 
-  pub ask-first : Exceeds L f x img → Leads true B f w → sought (λ i. asked 2 (first i)) (secondly L B f x img) r ≡ askAt L B f x img
+  pub ask-first : Exceeds L f x img → Leads true B f w → sought (asked 2 first) (secondly L B f x img) r ≡ askAt L B f x img
   unfolding askAt secondly
   ask-first e leads =
       rw (
         e .whole .read .accepts,
-        slotOf-none x (inFront L f img) (exceeds-absent e),
+        found-none x (inFront L f img) (exceeds-absent e),
         eq-eqb (length (inFront L f img)) (L .frontSlots) (e .whole .full),
         lt-ltb (largest (inFront L f img)) x (e .over),
       )
-      (sym (seeks true leads (λ i. asked 2 (first i)) (secondly L B f x img)))
+      (sym (seeks true leads (asked 2 first) (secondly L B f x img)))
 
-  pub ask-second : Leads false B f w → sought (λ i. asked 3 (second i)) (asked 3 nowhere) r ≡ secondly L B f x img
+  pub ask-second : Leads false B f w → sought (asked 3 second) (denied 3) r ≡ secondly L B f x img
   unfolding secondly
-  ask-second leads = sym (seeks false leads (λ i. asked 3 (second i)) (asked 3 nowhere))
+  ask-second leads = sym (seeks false leads (asked 3 second) (denied 3))

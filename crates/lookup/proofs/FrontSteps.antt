@@ -4,12 +4,14 @@ use mathlib.Core.Path.{_≡_}
 use Prim.Native.Nat.{ℕ, _≤_, _<_}
 use mathlib.Core.List.{List}
 use lib.ListN.{length}
-use Rattle.multiset.specs.Multisets.{below, copies, largest}
+use Rattle.multiset.specs.Multisets.{below, foundIn, largest}
 use Rattle.crumbmap.specs.Layouts.{Layout, keys}
 use Rattle.buckets.specs.Buckets.{frontList}
 use Rattle.minifilter.specs.Steps.Readings.{SoundFront}
 use Rattle.minifilter.specs.declared.Reading.{Reading}
 use Rattle.minifilter.specs.declared.Reading.the-variants as R
+use Rattle.search.specs.Steps.Searches.{searchOf}
+use Rattle.search.specs.declared.Search.{Search}
 use Rattle.machine.specs.Images.{bucketAt, inFront}
 use Rattle.image.specs.Steps.ImageReads.{FrontRead, FrontSays, FrontFull}
 use Rattle.image.proofs.ImageReadLaws.{front-told, front-full}
@@ -36,9 +38,9 @@ module _ {L : Layout} {f x n slot : ℕ} {img : List ℕ} (h : Holds L f x img n
     pub largest-sought : L .frontSlots ≤ n → SoundFront L lent × (length (frontList L lent) ≡ L .frontSlots)
     largest-sought k = rw bytes (h .read .sound, holds-all k .full)
 
-    -- and what it found: m copies of x, and the largest
-    pub copies-found : {m : ℕ} → m ≡ copies x (frontList L lent) → m ≡ copies x (inFront L f img)
-    copies-found e = rw bytes at e
+    -- and what it found: where x stands, and the largest
+    pub key-found : {r : Search} → r ≡ searchOf (foundIn x (frontList L lent)) → r ≡ searchOf (foundIn x (inFront L f img))
+    key-found e = rw bytes at e
 
     pub largest-found : {top : ℕ} → top ≡ largest (frontList L lent) → top ≡ largest (inFront L f img)
     largest-found e = rw bytes at e

@@ -18,20 +18,21 @@ use image::place::bucket;
 use image::place::locate;
 use image::place::table_of;
 use minifilter::Reading;
-use search::find::copies_back;
-use search::find::copies_front;
+use search::Search;
+use search::find::find_back;
+use search::find::find_front;
 use search::find::largest_front;
 ghost use mathlib.Core.Path.{_≡_};
 ghost use Prim.Native.Nat.{_+_, _*_, _<_};
 ghost use Rattle.crumbmap.specs.Layouts.{layout1, keys};
 ghost use Rattle.machine.specs.Images.{backAt};
-ghost use Rattle.machine.specs.Machine.{askAt, asked, nowhere};
+ghost use Rattle.machine.specs.Machine.{askAt, denied};
 ghost use Rattle.machine.specs.Calls.{askOf};
 ghost use Rattle.answers.specs.Answers.{askedOf};
 ghost use Rattle.image.specs.Steps.ImageReads.{Placed, BackIn, Exceeds};
 ghost use Rattle.lookup.specs.Steps.Lookups.{soughtIn};
 
-// Where the fingerprint of a hash stands, and how many buckets were read to tell.
+// Where the fingerprint of a hash stands and how often there, and how many buckets were read to tell.
 pub fn ask(image: &[u8], hash: u64) -> AskResult
     ensures { λ r. ⌜ askedOf r ≡ askOf layout1 (now (image .entry)) hash ⌝ }
 {
@@ -48,23 +49,26 @@ fn ask_at(image: &[u8], target: Target) -> AskResult
 {
     let front = target.front;
     let key = target.key;
-    let Reading::Members(n, slot) = read_front_at(image, front, key) else {
+    let Reading::Members(n, below) = read_front_at(image, front, key) else {
         return AskResult::Refused(Refusal::Unsound(front.0));
     };
     let b = bucket(image, front.0);
-    if 0 < copies_front(b, slot, key) {
-        return AskResult::Accepted(Asked {
+    match find_front(b, below, key) {
+        Search::At(slot, copies) => AskResult::Accepted(Asked {
             reads: 1,
             place: Place::Front(slot),
-        });
+            copies,
+        }),
+        Search::Absent => {
+            if n < FRONT_SLOTS {
+                return none_in(1);
+            }
+            if key <= largest_front(b) {
+                return none_in(1);
+            }
+            ask_behind(image, target)
+        }
     }
-    if n < FRONT_SLOTS {
-        return none_in(1);
-    }
-    if key <= largest_front(b) {
-        return none_in(1);
-    }
-    ask_behind(image, target)
 }
 
 // The backyard buckets of a front bucket that holds 28, all smaller.
@@ -77,15 +81,17 @@ fn ask_behind(image: &[u8], target: Target) -> AskResult
     let key = target.key;
     match seek(image, size, first_of(front, size), key) {
         Sought::Unsound(table) => AskResult::Refused(Refusal::Unsound(table)),
-        Sought::At(slot) => AskResult::Accepted(Asked {
+        Sought::At(slot, copies) => AskResult::Accepted(Asked {
             reads: 2,
             place: Place::First(slot),
+            copies,
         }),
         Sought::Absent => match seek(image, size, second_of(front, size), key) {
             Sought::Unsound(table) => AskResult::Refused(Refusal::Unsound(table)),
-            Sought::At(slot) => AskResult::Accepted(Asked {
+            Sought::At(slot, copies) => AskResult::Accepted(Asked {
                 reads: 3,
                 place: Place::Second(slot),
+                copies,
             }),
             Sought::Absent => none_in(3),
         },
@@ -93,28 +99,28 @@ fn ask_behind(image: &[u8], target: Target) -> AskResult
 }
 
 // One backyard bucket is read, and the key sought with the crumb that it carries there.
-pub fn seek(image: &[u8], size: usize, way: Overflow, key: u32) -> Sought
+fn seek(image: &[u8], size: usize, way: Overflow, key: u32) -> Sought
     requires { ⌜ BackIn size (way .bucket .0) (now image) × (way .crumb < 16) × (key < keys layout1) ⌝ }
     ensures { λ r. ⌜ r ≡ soughtIn (key * 16 + way .crumb) (backAt layout1 size (way .bucket .0) (now (image .entry))) ⌝ }
 {
     let bucket = way.bucket;
     let member = key * 16 + way.crumb;
-    let Reading::Members(_, slot) = read_back_at(image, size, bucket, member) else {
+    let Reading::Members(_, below) = read_back_at(image, size, bucket, member) else {
         return Sought::Unsound(table_of(size, bucket));
     };
-    if 0 < copies_back(back_bucket(image, size, bucket), slot, member) {
-        Sought::At(slot)
-    } else {
-        Sought::Absent
+    match find_back(back_bucket(image, size, bucket), below, member) {
+        Search::At(slot, copies) => Sought::At(slot, copies),
+        Search::Absent => Sought::Absent,
     }
 }
 
 // Nothing was found in so many reads.
 fn none_in(reads: u32) -> AskResult
-    ensures { λ r. ⌜ askedOf r ≡ asked reads nowhere ⌝ }
+    ensures { λ r. ⌜ askedOf r ≡ denied reads ⌝ }
 {
     AskResult::Accepted(Asked {
         reads,
         place: Place::Nowhere,
+        copies: 0,
     })
 }

@@ -8,13 +8,14 @@ use crumbmap::map::ways_of;
 use image::BackyardReading;
 use image::Located;
 use image::Target;
-use image::back::copies_at;
+use image::back::find_at;
 use image::back::read_backyard;
 use image::front::read_front_at;
 use image::place::bucket;
 use image::place::locate;
 use minifilter::Reading;
-use search::find::copies_front;
+use search::find::copies_of;
+use search::find::find_front;
 use search::find::largest_front;
 ghost use mathlib.Core.Path.{_≡_};
 ghost use Rattle.crumbmap.specs.Layouts.{layout1};
@@ -41,11 +42,11 @@ fn count_at(image: &[u8], target: Target) -> CountResult
 {
     let front = target.front;
     let key = target.key;
-    let Reading::Members(n, slot) = read_front_at(image, front, key) else {
+    let Reading::Members(n, below) = read_front_at(image, front, key) else {
         return CountResult::Refused(Refusal::Unsound(front.0));
     };
     let b = bucket(image, front.0);
-    let copies = copies_front(b, slot, key);
+    let copies = copies_of(find_front(b, below, key));
     if n < FRONT_SLOTS {
         return CountResult::Accepted(Counted { copies, reads: 1 });
     }
@@ -66,8 +67,8 @@ fn count_behind(image: &[u8], target: Target, here: usize) -> CountResult
     match read_backyard(image, size, front, ways_of(front, size), key) {
         BackyardReading::Unsound(table) => CountResult::Refused(Refusal::Unsound(table)),
         BackyardReading::Sound(a, b) => {
-            let first = copies_at(image, size, a, key);
-            let second = copies_at(image, size, b, key);
+            let first = copies_of(find_at(image, size, a, key));
+            let second = copies_of(find_at(image, size, b, key));
             let near = here + first;
             let copies = near + second;
             CountResult::Accepted(Counted { copies, reads: 3 })

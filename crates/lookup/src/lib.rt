@@ -3,9 +3,9 @@
 pub mod ask;
 pub mod count;
 
-// What seeking a member in a backyard bucket finds: its lowest slot, or the table number of a bucket that is unsound.
+// What seeking a member in a backyard bucket finds: its lowest slot and its copies there, or the table number of a bucket that is unsound.
 pub enum Sought {
-    At(usize),
+    At(usize, usize),
     Absent,
     Unsound(usize),
 }

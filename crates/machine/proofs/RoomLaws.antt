@@ -10,7 +10,8 @@ use native.Mathlib.Omega.{arith}
 use lib.ListN.{length, length-append, length-map}
 use lib.Dec.{leb, ltb, eqb}
 use borrow.Author.Tests.{le-leb}
-use Rattle.multiset.specs.Multisets.{slotOf}
+use Rattle.multiset.specs.Multisets.{copies, slotOf, Found, foundIn}
+use Rattle.multiset.proofs.MultisetLaws.{copies-le-length}
 use Rattle.crumbmap.specs.Layouts.{Layout, mostMembers}
 use Rattle.crumbmap.specs.CrumbMap.{firstBucket, secondBucket, firstCrumb, secondCrumb}
 use Rattle.crumbmap.specs.Fingerprints.{fingerprint}
@@ -135,9 +136,9 @@ module _ (L : Layout) where
           let q = same-answer (k .2) in
           rw (sym q) (omega arith)
 
--- ---- slots
+-- ---- where a member stands
 
-pub slotOf-lt : (x : ℕ) (ys : List ℕ) (i : ℕ) → slotOf x ys ≡ some i → i < length ys
+slotOf-lt : (x : ℕ) (ys : List ℕ) (i : ℕ) → slotOf x ys ≡ some i → i < length ys
 unfolding slotOf
 slotOf-lt x [] i e = let z : _≡_ {A = ℕ} 0 1 = cc in absurd (omega arith)
 slotOf-lt x (y ∷ ys) i e = go (eqb x y) (slotOf x ys) (λ j. slotOf-lt x ys j) e
@@ -147,3 +148,15 @@ slotOf-lt x (y ∷ ys) i e = go (eqb x y) (slotOf x ys) (λ j. slotOf-lt x ys j)
     go true o more g = let q = some-eq 0 i g in omega arith
     go false none more g = let z : _≡_ {A = ℕ} 0 1 = cc in absurd (omega arith)
     go false (some j) more g = let q = some-eq (suc j) i g in omega (arith, more j refl)
+
+-- its slot is one of the members', and its copies are no more than these
+pub found-room : (x : ℕ) (ys : List ℕ) (s : Found) → foundIn x ys ≡ some s → (s .slot < length ys) × (s .copies ≤ length ys)
+unfolding foundIn
+found-room x ys s e = go (slotOf x ys) refl e
+  where
+    go : (o : Option ℕ) → slotOf x ys ≡ o → Option·map (λ (i : ℕ). record { slot = i; copies = copies x ys }) o ≡ some s
+        → (s .slot < length ys) × (s .copies ≤ length ys)
+    go none p q = let z : _≡_ {A = ℕ} 0 1 = cc in absurd (omega arith)
+    go (some i) p q =
+        let r = some-eq _ s q in
+        rw (sym r) (slotOf-lt x ys i p, copies-le-length x ys)

@@ -9,7 +9,7 @@ use native.Mathlib.Omega.{arith}
 use lib.ListN.{length}
 use lib.Dec.{eqb, ltb}
 use borrow.Author.Tests.{ltb-true, ltb-false, eq-eqb, ne-eqb}
-use Rattle.multiset.specs.Multisets.{Below, slotOf, largest}
+use Rattle.multiset.specs.Multisets.{Below, Found, foundIn, largest}
 use Rattle.crumbmap.specs.Layouts.{Layout, fronts, backyards}
 use Rattle.crumbmap.specs.Fingerprints.{frontOf, keyOf}
 use Rattle.crumbmap.specs.CrumbMap.{firstBucket, secondBucket, firstCrumb, secondCrumb}
@@ -68,14 +68,14 @@ unopened (h ∷ gs) = go (eqb 0 (h .front))
 
 -- what is true of both ways on is true of a read, of a search, and of a test
 module _ {A : Type 0} (P : Result A → Type 0) where
-  of-read : (i : ℕ) (o : Option (List ℕ)) {k : List ℕ → Result A} → P (refused 3 i) → ((xs : List ℕ) → orUnsound i o ≡ accepted xs → P (k xs))
+  pub of-read : (i : ℕ) (o : Option (List ℕ)) {k : List ℕ → Result A} → P (refused 3 i) → ((xs : List ℕ) → orUnsound i o ≡ accepted xs → P (k xs))
       → P (andThen (orUnsound i o) k)
   of-read i none p q = p
   of-read i (some xs) p q = q xs refl
 
-  pub of-search : (o : Option ℕ) {at : ℕ → Result A} {other : Result A} → ((i : ℕ) → P (at i)) → P other → P (found o at other)
+  pub of-search : (o : Option Found) {at : Found → Result A} {other : Result A} → ((s : Found) → o ≡ some s → P (at s)) → P other → P (found o at other)
   of-search none p q = q
-  of-search (some i) p q = p i
+  of-search (some s) p q = p s refl
 
   pub of-test : (b : Bool) {r s : Result A} → P r → P s → P (cond b r s)
   of-test true p q = p
@@ -95,13 +95,13 @@ module _ (L : Layout) (B f x : ℕ) (img : List ℕ) (R : ℕ → Type 0) where
   ask-ends one two three =
       of-read P f (frontMembers L (bucketAt f img)) (refl, λ h. omega arith) λ xs e.
       let r1 = one xs e in
-      of-search P (slotOf x xs) (λ i. (r1, omega arith, omega arith)) (of-test P (eqb (length xs) (L .frontSlots) && ltb (largest xs) x)
+      of-search P (foundIn x xs) (λ s e. (r1, omega arith, omega arith)) (of-test P (eqb (length xs) (L .frontSlots) && ltb (largest xs) x)
       (of-read P (fronts B + firstBucket f) (back (firstBucket f)) (refl, λ h. omega (arith, bucketOf-lt true B f h)) λ ys e'.
       let r2 = two ys r1 e' in
-      of-search P (slotOf (x * 16 + firstCrumb f) ys) (λ i. (r2, omega arith, omega arith))
+      of-search P (foundIn (x * 16 + firstCrumb f) ys) (λ s e. (r2, omega arith, omega arith))
       (of-read P (fronts B + secondBucket B f) (back (secondBucket B f)) (refl, λ h. omega (arith, bucketOf-lt false B f h)) λ zs e''.
       let r3 = three zs r2 e'' in
-      of-search P (slotOf (x * 16 + secondCrumb f) zs) (λ i. (r3, omega arith, omega arith)) (r3, omega arith, omega arith)))
+      of-search P (foundIn (x * 16 + secondCrumb f) zs) (λ s e. (r3, omega arith, omega arith)) (r3, omega arith, omega arith)))
       (r1, omega arith, omega arith))
     where
       back : ℕ → Option (List ℕ)

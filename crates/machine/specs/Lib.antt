@@ -3,6 +3,7 @@ pub mod Results
 pub mod Images
 pub mod Bags
 pub mod Machine
+pub mod Copies
 pub mod Steps
 pub mod Pages
 pub mod Checks

@@ -6,7 +6,7 @@ use mathlib.Core.List.{List, [], _∷_}
 use mathlib.Core.Option.{Option, none, some}
 use lib.ListN.{length}
 use lib.Dec.{leb, ltb, eqb}
-use Rattle.multiset.specs.Multisets.{added, removed, copies, slotOf, largest}
+use Rattle.multiset.specs.Multisets.{added, removed, copies, Found, foundIn, largest}
 use Rattle.crumbmap.specs.Layouts.{Layout}
 use Rattle.crumbmap.specs.CrumbMap.{firstBucket, secondBucket, firstCrumb, secondCrumb, bucketOf, crumbOf}
 use Rattle.buckets.specs.Buckets.{carrying}
@@ -27,13 +27,18 @@ pub data Place : Type 0 where
   nowhere : Place
   front first second : ℕ → Place
 
--- "an ask gives its reads and a place"
+-- "an ask gives its reads and a place" and the copies, "0 for none": those "in the one bag where the ask ended"
 pub record Asked : Type 0 where
   pub reads : ℕ
   pub place : Place
+  pub copies : ℕ
 
-abbrev pub asked : ℕ → Place → Result Asked
-asked n p = accepted (record { reads = n; place = p })
+-- an ask that ended after n reads with what it found in a bag, and one that found nothing
+abbrev pub asked : ℕ → (ℕ → Place) → Found → Result Asked
+asked n bag s = accepted (record { reads = n; place = bag (s .slot); copies = s .copies })
+
+abbrev pub denied : ℕ → Result Asked
+denied n = accepted (record { reads = n; place = nowhere; copies = 0 })
 
 -- "count gives copies and reads"
 pub record Counted : Type 0 where
@@ -43,10 +48,10 @@ pub record Counted : Type 0 where
 abbrev pub counted : ℕ → ℕ → Result Counted
 counted n c = accepted (record { reads = n; copies = c })
 
--- the slot of what was sought, or what to do where it is not there
-abbrev pub found : {A : Type 0} → Option ℕ → (ℕ → Result A) → Result A → Result A
+-- what was sought, or what to do where it is not there
+abbrev pub found : {A : Type 0} → Option Found → (Found → Result A) → Result A → Result A
 found none at other = other
-found (some i) at other = at i
+found (some s) at other = at s
 
 -- how many members a bucket has
 abbrev pub occupancy : Result (List ℕ) → ℕ
@@ -119,13 +124,13 @@ module _ (L : Layout) (B f : ℕ) where
   unfoldable pub askAt : ℕ → List ℕ → Result Asked
   askAt x img =
       andThen (frontAt L f img) λ xs.
-      found (slotOf x xs) (λ i. asked 1 (front i))
+      found (foundIn x xs) (asked 1 front)
       (cond (eqb (length xs) (L .frontSlots) && ltb (largest xs) x)
       (andThen (backAt L B (firstBucket f) img) λ ys.
-      found (slotOf (x * 16 + firstCrumb f) ys) (λ i. asked 2 (first i))
+      found (foundIn (x * 16 + firstCrumb f) ys) (asked 2 first)
       (andThen (backAt L B (secondBucket B f) img) λ zs.
-      found (slotOf (x * 16 + secondCrumb f) zs) (λ i. asked 3 (second i)) (asked 3 nowhere)))
-      (asked 1 nowhere))
+      found (foundIn (x * 16 + secondCrumb f) zs) (asked 3 second) (denied 3)))
+      (denied 1))
 
   -- "those in Front(f), 1 read; if Front(f) holds 28 and g is not below its largest, those in First(f) and Second(f) too, 3 reads"
   unfoldable pub countAt : ℕ → List ℕ → Result Counted

@@ -1,16 +1,17 @@
--- How many members are smaller than a number: `below`, member by member and as a sum of copies, and the lowest slot of a member.
--- Main results: `below-suc`, `below-all`, `below-lt-length`, `slotOf-none`, `slotOf-some`, `sum-copies`.
+-- How many members are smaller than a number: `below`, member by member and as a sum of copies, and where a member stands.
+-- Main results: `below-suc`, `below-all`, `below-lt-length`, `found-none`, `found-some`, `found-copies`, `sum-copies`.
 use mathlib.Core.Path.{_≡_, refl, sym, ap, _∙_}
+use mathlib.Core.Logic.{⊎-elim}
 use Prim.Native.Nat.{ℕ, zero, suc, _+_, _≤_, _<_}
 use mathlib.Core.List.{List, [], _∷_}
 use mathlib.Core.Option.{none, some}
-use native.Mathlib.Nat.{zero-add}
+use native.Mathlib.Nat.{zero-add, eq-zero-or-pos}
 use native.Mathlib.Decide.{decLe, ℕ-discrete}
 use native.Mathlib.Omega.{arith}
 use lib.ListN.{length}
 use lib.Dec.{T}
 use borrow.Author.Tests.{eq-eqb, ne-eqb, lt-ltb, le-ltb}
-use Rattle.multiset.specs.Multisets.{Below, copies, below, slotOf, largest, ascending, sum}
+use Rattle.multiset.specs.Multisets.{Below, copies, below, slotOf, Found, foundIn, largest, ascending, sum}
 use Rattle.multiset.proofs.MultisetLaws.{hit-other, hit-equal, copies-cons}
 use Rattle.multiset.proofs.OrderLaws.{ascending-tail, ascending-le, head-least, largest-cons}
 use Rattle.multiset.proofs.SumLaws.{sum-last}
@@ -99,7 +100,7 @@ below-none x y [] a h = below-other x y [] h
 below-none x y (z ∷ zs) a h =
     below-other x y (z ∷ zs) h ∙ below-none x z zs (ascending-tail y (z ∷ zs) a) (omega (arith, ascending-le y z zs a))
 
-pub slotOf-none : (x : ℕ) (ys : List ℕ) → copies x ys ≡ 0 → slotOf x ys ≡ none
+slotOf-none : (x : ℕ) (ys : List ℕ) → copies x ys ≡ 0 → slotOf x ys ≡ none
 unfolding slotOf
 slotOf-none x [] h = refl
 slotOf-none x (y ∷ ys) h = elim (ℕ-discrete x y) [
@@ -107,7 +108,7 @@ slotOf-none x (y ∷ ys) h = elim (ℕ-discrete x y) [
   | no n ↦ rw (ne-eqb x y n, slotOf-none x ys (omega (arith, copies-cons x y ys)))
 ]
 
-pub slotOf-some : (x : ℕ) (ys : List ℕ) → T (ascending ys) → 0 < copies x ys → slotOf x ys ≡ some (below x ys)
+slotOf-some : (x : ℕ) (ys : List ℕ) → T (ascending ys) → 0 < copies x ys → slotOf x ys ≡ some (below x ys)
 unfolding slotOf copies
 slotOf-some x [] a h = absurd (omega arith)
 slotOf-some x (y ∷ ys) a h = elim (ℕ-discrete x y) [
@@ -118,6 +119,28 @@ slotOf-some x (y ∷ ys) a h = elim (ℕ-discrete x y) [
     below-smaller x y ys (omega (arith, head-least x y ys a h)),
   )
 ]
+
+pub found-none : (x : ℕ) (ys : List ℕ) → copies x ys ≡ 0 → foundIn x ys ≡ none
+unfolding foundIn
+found-none x ys h = rw (slotOf-none x ys h)
+
+pub found-some : (x : ℕ) (ys : List ℕ) → T (ascending ys) → 0 < copies x ys → foundIn x ys ≡ some (record { slot = below x ys; copies = copies x ys })
+unfolding foundIn
+found-some x ys a h = rw (slotOf-some x ys a h)
+
+-- and the other way round
+pub absent-copies : (x : ℕ) (ys : List ℕ) → T (ascending ys) → foundIn x ys ≡ none → copies x ys ≡ 0
+absent-copies x ys a e = ⊎-elim
+    (λ z. z)
+    (λ p. let q = sym (found-some x ys a p) ∙ e in let z : _≡_ {A = ℕ} 0 1 = cc in absurd (omega arith))
+    (eq-zero-or-pos (copies x ys))
+
+pub found-copies : (x : ℕ) (ys : List ℕ) (s : Found) → T (ascending ys) → foundIn x ys ≡ some s
+    → (s .slot ≡ below x ys) × (s .copies ≡ copies x ys) × (0 < copies x ys)
+found-copies x ys s a e = ⊎-elim
+    (λ z. let q = sym (found-none x ys z) ∙ e in let z : _≡_ {A = ℕ} 0 1 = cc in absurd (omega arith))
+    (λ p. let q = sym (found-some x ys a p) ∙ e in let r : record { slot = below x ys; copies = copies x ys } ≡ s = cc in (rw (sym r), rw (sym r), p))
+    (eq-zero-or-pos (copies x ys))
 
 -- ---- `below` is a sum of copies
 

@@ -30,6 +30,14 @@ unfoldable pub slotOf : ℕ → List ℕ → Option ℕ
 slotOf x [] = none
 slotOf x (y ∷ ys) = cond (eqb x y) (some 0) (Option·map (λ (i : ℕ). suc i) (slotOf x ys))
 
+-- "the lowest slot and the number of equal copies there": where x stands in the multiset
+pub record Found : Type 0 where
+  pub slot : ℕ
+  pub copies : ℕ
+
+unfoldable pub foundIn : ℕ → List ℕ → Option Found
+foundIn x xs = Option·map (λ (i : ℕ). record { slot = i; copies = copies x xs }) (slotOf x xs)
+
 -- "the largest": the last of an ascending list; 0 where there is none
 unfoldable pub largest : List ℕ → ℕ
 largest [] = 0

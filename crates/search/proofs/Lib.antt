@@ -1,4 +1,5 @@
 -- Laws of search and of lists.
 pub mod SearchLaws
+pub mod FoundLaws
 pub mod ListLaws
 pub mod TagLaws

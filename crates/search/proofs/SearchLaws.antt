@@ -1,22 +1,22 @@
 -- Where a member stands in a sound bucket, at any layout, for front and backyard alike: what a scan of one mini-bucket's slots finds.
--- Main results: `rank-scanned`, `copies-scanned`, `holds-test`.
-use mathlib.Core.Path.{_≡_, refl, sym, ap}
-use Prim.Native.Nat.{ℕ, suc, _+_, _*_, _/_, _%_, _-_, _≤_, _<_}
-use mathlib.Core.Bool.{Bool, true, false}
+-- Main results: `rank-scanned`, `find-none`, `find-some`.
+use mathlib.Core.Path.{_≡_, sym, ap}
+use Prim.Native.Nat.{ℕ, suc, _+_, _*_, _/_, _-_, _≤_, _<_}
+use mathlib.Core.Bool.{Bool}
 use mathlib.Core.List.{List}
-use native.Mathlib.Nat.{mul-le-mul-right, div-lt-iff-lt-mul, div-add-mod', suc-mul}
+use mathlib.Core.Option.{none, some}
+use native.Mathlib.Nat.{div-lt-iff-lt-mul, suc-mul}
 use native.Mathlib.Decide.{decLe, ℕ-discrete}
 use native.Mathlib.Omega.{arith, by-contra, both-ways}
 use lib.ListN.{length, getD}
-use lib.Dec.{T, leb, ltb}
-use borrow.Author.Tests.{lt-ltb, le-ltb, leb-true, leb-false}
-use Rattle.multiset.specs.Multisets.{ascending, below, copies}
+use lib.Dec.{T}
+use Rattle.multiset.specs.Multisets.{ascending, below, copies, foundIn}
 use Rattle.multiset.specs.Digits.{highs}
 use Rattle.crumbmap.specs.Layouts.{Layout}
 use Rattle.minifilter.specs.Steps.Slots.{spanOf, lowAt}
 use Rattle.search.specs.Steps.Searches.{Scanned}
-use Rattle.multiset.proofs.RankLaws.{below-le-length, below-suc}
-use Rattle.multiset.proofs.SlotLaws.{slot-below, slot-above, holds-copy}
+use Rattle.multiset.proofs.RankLaws.{below-le-length, below-suc, found-none, found-some}
+use Rattle.multiset.proofs.SlotLaws.{slot-below, slot-above}
 use Rattle.multiset.proofs.DigitLaws.{ascending-highs, length-highs}
 use Rattle.crumbmap.proofs.FingerprintLaws.{parts-high}
 use Rattle.buckets.proofs.HighLaws.{getD-highs, highs-from, highs-past, parts-lt, parts-le}
@@ -93,7 +93,7 @@ rank-past L crumbs ys mini low h =
     omega (arith, below-suc x ys, rw (mini-of L crumbs mini low h) at (highs-past (spanOf L crumbs) x ys (span-pos L crumbs)))
 
 -- a scan from there for the next larger member finds the end of the copies
-pub copies-scanned : (L : Layout) (crumbs : Bool) (b ys : List ℕ) → Held L crumbs b ys → (mini low slot end : ℕ) → low < spanOf L crumbs
+copies-scanned : (L : Layout) (crumbs : Bool) (b ys : List ℕ) → Held L crumbs b ys → (mini low slot end : ℕ) → low < spanOf L crumbs
     → slot ≡ below (mini * spanOf L crumbs + low) ys → Scanned L crumbs b slot (below (suc mini) (highs (spanOf L crumbs) ys)) (low + 1) end
     → end - slot ≡ copies (mini * spanOf L crumbs + low) ys
 copies-scanned L crumbs b ys h mini low slot end fit e s =
@@ -103,35 +103,29 @@ copies-scanned L crumbs b ys h mini low slot end fit e s =
     (omega (arith, rank-from L crumbs ys mini low fit)) (λ i l. omega (arith, slot-below x i ys (h .order) (omega arith))) s in
     omega (arith, below-suc x ys, ap (λ (z : ℕ). below z ys) next)
 
--- the slot behind the smaller members: no copy stands there where its mini-bucket has ended or it holds more, and one does where it holds no more
+-- the slot behind the smaller members: no copy stands there where its mini-bucket has ended or it holds more; where it holds no more, the copies run
+-- on from it up to the first slot that does
 module _ (L : Layout) (crumbs : Bool) (b ys : List ℕ) (h : Held L crumbs b ys) (mini low slot : ℕ) (l : low < spanOf L crumbs)
     (at : slot ≡ below (mini * spanOf L crumbs + low) ys) where
-  pub holds-none : (slot < below (suc mini) (highs (spanOf L crumbs) ys) → low < lowAt L crumbs b slot) → copies (mini * spanOf L crumbs + low) ys ≡ 0
-  holds-none more =
+  pub find-none : (slot < below (suc mini) (highs (spanOf L crumbs) ys) → low < lowAt L crumbs b slot) → foundIn (mini * spanOf L crumbs + low) ys ≡ none
+  find-none more =
       let s : Scanned L crumbs b slot (below (suc mini) (highs (spanOf L crumbs) ys)) (low + 1) slot = record {
         start = omega arith;
         stop = omega (arith, at, rank-past L crumbs ys mini low l);
         smaller = λ i p q. absurd (omega arith);
         here = λ p. omega (arith, more p);
       } in
-      omega (arith, copies-scanned L crumbs b ys h mini low slot slot l at s)
+      found-none (mini * spanOf L crumbs + low) ys (omega (arith, copies-scanned L crumbs b ys h mini low slot slot l at s))
 
-  pub holds-some : slot < below (suc mini) (highs (spanOf L crumbs) ys) → lowAt L crumbs b slot ≤ low → 0 < copies (mini * spanOf L crumbs + low) ys
-  holds-some inside few =
-      let k = spanOf L crumbs in
-      let x = mini * k + low in
-      let y = getD ys slot 0 in
-      let long : slot < length ys = omega (arith, below-le-length (suc mini) (highs k ys), length-highs k ys) in
-      let up : x ≤ y = slot-above x slot ys (h .order) (omega (arith, at)) long in
-      let high : y / k < suc mini = rw (getD-highs k slot ys) at (slot-below (suc mini) slot (highs k ys) (ascending-highs k ys (span-pos L crumbs) (h .order)) inside) in
-      let split : y / k * k + y % k ≡ y = div-add-mod' y k in
-      let part : y / k * k ≤ mini * k = mul-le-mul-right k (omega arith) in
-      holds-copy x slot ys (h .order) long (omega (arith, h .low slot long))
-
-  pub holds-test : slot < below (suc mini) (highs (spanOf L crumbs) ys) → {v : ℕ} → v ≡ lowAt L crumbs b slot
-      → leb v low ≡ ltb 0 (copies (mini * spanOf L crumbs + low) ys)
-  holds-test inside {v} e = go (leb v low) refl
-    where
-      go : (t : Bool) → leb v low ≡ t → t ≡ ltb 0 (copies (mini * spanOf L crumbs + low) ys)
-      go true q = sym (lt-ltb 0 (copies (mini * spanOf L crumbs + low) ys) (holds-some inside (omega (arith, e, leb-true v low q))))
-      go false q = sym (le-ltb 0 (copies (mini * spanOf L crumbs + low) ys) (omega (arith, holds-none (λ p. omega (arith, e, leb-false v low q)))))
+  pub find-some : (end : ℕ) → lowAt L crumbs b slot ≤ low → Scanned L crumbs b (slot + 1) (below (suc mini) (highs (spanOf L crumbs) ys)) (low + 1) end
+      → foundIn (mini * spanOf L crumbs + low) ys ≡ some (record { slot = slot; copies = end - slot })
+  find-some end few s =
+      let x : ℕ = mini * spanOf L crumbs + low in
+      let all : Scanned L crumbs b slot (below (suc mini) (highs (spanOf L crumbs) ys)) (low + 1) end = record {
+        start = omega (arith, s .start);
+        stop = s .stop;
+        smaller = λ i p q. elim (ℕ-discrete i slot) [ yes e ↦ rw e (omega arith) | no n ↦ s .smaller i (omega arith) q ];
+        here = s .here;
+      } in
+      let many : end - slot ≡ copies x ys = copies-scanned L crumbs b ys h mini low slot end l at all in
+      rw (many, at) (found-some x ys (h .order) (omega (arith, s .start, many)))

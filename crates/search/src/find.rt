@@ -1,5 +1,6 @@
 // Where a member stands in a sound bucket and how often, how many members there are, and the largest.
 
+use crate::Search;
 use crumbmap::layout::FRONT_SLOTS;
 use crumbmap::layout::MINIS;
 use crumbmap::layout::TAGS;
@@ -8,22 +9,19 @@ use words::select;
 use words::word;
 ghost use mathlib.Core.Path.{_≡_};
 ghost use Prim.Native.Nat.{suc, _+_, _*_, _<_, _≤_};
+ghost use mathlib.Core.Bool.{false};
 ghost use lib.ListN.{length};
-ghost use lib.Dec.{ltb};
-ghost use Rattle.multiset.specs.Multisets.{below, copies, slotOf, largest};
+ghost use Rattle.multiset.specs.Multisets.{below, copies, foundIn, largest};
 ghost use Rattle.multiset.specs.Digits.{highs};
-ghost use Rattle.crumbmap.specs.Layouts.{layout1, keys};
+ghost use Rattle.crumbmap.specs.Layouts.{layout1, tags, keys};
 ghost use Rattle.buckets.specs.Buckets.{frontList, backList};
 ghost use Rattle.words.specs.Select.{selectTable};
 ghost use Rattle.minifilter.specs.Steps.Readings.{SoundFront, SoundBack, membersOf};
-ghost use Rattle.minifilter.specs.Steps.Slots.{slotsOf, spanOf, lowAt};
-ghost use Rattle.search.specs.Steps.Searches.{Scanned, RankOf, Seekable, FirstTagged, seatOf, endOf1};
+ghost use Rattle.minifilter.specs.Steps.Slots.{slotsOf, spanOf, lowAt, tagAt};
+ghost use Rattle.search.specs.Steps.Searches.{Scanned, RankOf, Seekable, marksOf, Marked, searchOf, manyIn, endOf1};
 
 // A front bucket's last slot.
 const LAST: usize = FRONT_SLOTS - 1;
-
-// No slot of a bucket: what a search gives that finds nothing.
-pub const NOWHERE: usize = FRONT_SLOTS;
 
 // What the bytes hold of a slot.
 fn low_of(b: &[u8], crumbs: bool, slot: usize) -> u32
@@ -73,24 +71,66 @@ pub fn rank_back(table: &[u8], b: &[u8], member: u32) -> usize
     rank_in(b, true, mini, member % slots::BACK_SPAN, end)
 }
 
-// The lowest slot of a member, or NOWHERE, without the table.
-fn seek_in(b: &[u8], crumbs: bool, mini: u32, low: u32) -> usize
+// The slot past the last of a member's mini-bucket, from the slot where the member's copies begin: the zeros of the word from that place on.
+fn past_of(b: &[u8], crumbs: bool, slot: usize, mini: u32, low: u32) -> usize
+    requires { ⌜ RankOf layout1 crumbs (now b) slot mini low ⌝ }
+    ensures { λ r. ⌜ (r ≡ below (suc mini) (highs (spanOf layout1 crumbs) (membersOf layout1 crumbs (now (b .entry))))) × (slot ≤ r) × (r ≤ slotsOf layout1 crumbs) ⌝ }
+{
+    slot + word::rest(word::word_of(b), mini, slot)
+}
+
+// Where a member stands, by how many are below it: at that slot, if it is one of the mini-bucket's and holds no more, and at those behind it up to the
+// first that holds more.
+fn find_in(b: &[u8], crumbs: bool, slot: usize, mini: u32, low: u32) -> Search
+    requires { ⌜ RankOf layout1 crumbs (now b) slot mini low ⌝ }
+    ensures { λ r. ⌜ r ≡ searchOf (foundIn (mini * spanOf layout1 crumbs + low) (membersOf layout1 crumbs (now (b .entry)))) ⌝ }
+{
+    let past = past_of(b, crumbs, slot, mini, low);
+    if past == slot {
+        return Search::Absent;
+    }
+    if low < low_of(b, crumbs, slot) {
+        return Search::Absent;
+    }
+    Search::At(slot, scan(b, crumbs, slot + 1, past, low + 1) - slot)
+}
+
+// The same for a key in a front bucket, and for a member in a backyard bucket: the reader gave the slot.
+pub fn find_front(b: &[u8], slot: usize, key: u32) -> Search
+    requires { ⌜ SoundFront layout1 (now b) × (key < keys layout1) × (slot ≡ below key (frontList layout1 (now b))) ⌝ }
+    ensures { λ r. ⌜ r ≡ searchOf (foundIn key (frontList layout1 (now (b .entry)))) ⌝ }
+{
+    find_in(b, false, slot, key / TAGS, key % TAGS)
+}
+
+pub fn find_back(b: &[u8], slot: usize, member: u32) -> Search
+    requires { ⌜ SoundBack layout1 (now b) × (member < keys layout1 * 16) × (slot ≡ below member (backList layout1 (now b))) ⌝ }
+    ensures { λ r. ⌜ r ≡ searchOf (foundIn member (backList layout1 (now (b .entry)))) ⌝ }
+{
+    find_in(
+        b,
+        true,
+        slot,
+        member / slots::BACK_SPAN,
+        member % slots::BACK_SPAN,
+    )
+}
+
+// The same search where the reader gave no slot: select finds it, without the table.
+fn seek_in(b: &[u8], crumbs: bool, mini: u32, low: u32) -> Search
     requires { ⌜ Seekable layout1 crumbs (now b) mini low ⌝ }
-    ensures { λ r. ⌜ r ≡ seatOf layout1 (slotOf (mini * spanOf layout1 crumbs + low) (membersOf layout1 crumbs (now (b .entry)))) ⌝ }
+    ensures { λ r. ⌜ r ≡ searchOf (foundIn (mini * spanOf layout1 crumbs + low) (membersOf layout1 crumbs (now (b .entry)))) ⌝ }
 {
     let end = select::place_of(word::word_of(b), word::rank_before(mini));
     let slot = rank_in(b, crumbs, mini, low, end);
-    if holds_in(b, crumbs, slot, mini, low) {
-        return slot;
-    }
-    NOWHERE
+    find_in(b, crumbs, slot, mini, low)
 }
 
-// The lowest slot of a front bucket that holds a tag, in use or not, or NOWHERE. No slot ends the loop, and the marks are from 2 on and alike, so that
-// many slots are compared at once.
-fn first_tagged(b: &[u8], tag: u32) -> usize
+// A mark for each slot of a front bucket that holds a tag, in use or not: 2 for the lowest. No slot ends the loop, and the marks are from 2 on and
+// alike, so that many slots are compared at once.
+fn marks_of(b: &[u8], tag: u32) -> u32
     requires { ⌜ length (now b) ≡ 64 ⌝ }
-    ensures { λ r. ⌜ FirstTagged layout1 (now (b .entry)) tag r ⌝ }
+    ensures { λ r. ⌜ r ≡ 2 * marksOf (tagAt layout1 false (now (b .entry))) tag 0 (layout1 .frontSlots) ⌝ }
 {
     let mut marks: u32 = 0;
     let mut mark: u32 = 2;
@@ -102,34 +142,46 @@ fn first_tagged(b: &[u8], tag: u32) -> usize
         mark = mark * 2;
         slot += 1;
     }
-    if marks == 0 {
-        return NOWHERE;
-    }
-    (u32::trailing_zeros(marks) as usize) - 1
+    marks
 }
 
-// The lowest slot of a key in a front bucket, or NOWHERE: the first with its tag, if that is one of its mini-bucket's. Tags of other mini-buckets
-// seldom are the same; then select finds the slot.
-pub fn seek_front(b: &[u8], key: u32) -> usize
+// The copies of a key, by the marks of its tag from its lowest slot on: those in a row, as far as they are its mini-bucket's. Mostly there is one.
+fn copies_marked(b: &[u8], slot: usize, mini: u32, tag: u32, marks: u32) -> usize
+    requires { ⌜ Marked layout1 (now b) slot mini tag marks ⌝ }
+    ensures { λ r. ⌜ r ≡ copies (mini * tags layout1 + tag) (frontList layout1 (now (b .entry))) ⌝ }
+{
+    if marks / 2 % 2 == 0 {
+        return 1;
+    }
+    let rest = past_of(b, false, slot, mini, tag) - slot;
+    let run = u32::trailing_zeros(marks + 1) as usize;
+    if rest < run { rest } else { run }
+}
+
+// Where a key stands in a front bucket that the reader gave no slot of: at the first slot with its tag, if that is one of its mini-bucket's. Tags of
+// other mini-buckets seldom are the same; then select finds the slot.
+pub fn seek_front(b: &[u8], key: u32) -> Search
     requires { ⌜ SoundFront layout1 (now b) × (key < keys layout1) ⌝ }
-    ensures { λ r. ⌜ r ≡ seatOf layout1 (slotOf key (frontList layout1 (now (b .entry)))) ⌝ }
+    ensures { λ r. ⌜ r ≡ searchOf (foundIn key (frontList layout1 (now (b .entry)))) ⌝ }
 {
     let mini = key / TAGS;
     let tag = key % TAGS;
-    let slot = first_tagged(b, tag);
-    if slot == NOWHERE {
-        return NOWHERE;
+    let marks = marks_of(b, tag);
+    if marks == 0 {
+        return Search::Absent;
     }
+    let place = u32::trailing_zeros(marks);
+    let slot = (place - 1) as usize;
     if word::is_slot_of(word::word_of(b), mini, slot) {
-        return slot;
+        return Search::At(slot, copies_marked(b, slot, mini, tag, marks >> place));
     }
     seek_in(b, false, mini, tag)
 }
 
-// The lowest slot of a member in a backyard bucket, or NOWHERE.
-pub fn seek_back(b: &[u8], member: u32) -> usize
+// Where a member stands in a backyard bucket that the reader gave no slot of.
+pub fn seek_back(b: &[u8], member: u32) -> Search
     requires { ⌜ SoundBack layout1 (now b) × (member < keys layout1 * 16) ⌝ }
-    ensures { λ r. ⌜ r ≡ seatOf layout1 (slotOf member (backList layout1 (now (b .entry)))) ⌝ }
+    ensures { λ r. ⌜ r ≡ searchOf (foundIn member (backList layout1 (now (b .entry)))) ⌝ }
 {
     seek_in(
         b,
@@ -139,61 +191,14 @@ pub fn seek_back(b: &[u8], member: u32) -> usize
     )
 }
 
-// The slot past the last of a member's mini-bucket, from the slot where the member's copies begin: the zeros of the word from that place on.
-fn past_of(b: &[u8], crumbs: bool, slot: usize, mini: u32, low: u32) -> usize
-    requires { ⌜ RankOf layout1 crumbs (now b) slot mini low ⌝ }
-    ensures { λ r. ⌜ (r ≡ below (suc mini) (highs (spanOf layout1 crumbs) (membersOf layout1 crumbs (now (b .entry))))) × (slot ≤ r) × (r ≤ slotsOf layout1 crumbs) ⌝ }
+// The copies that a search found.
+pub fn copies_of(found: Search) -> usize
+    ensures { λ r. ⌜ r ≡ manyIn found ⌝ }
 {
-    slot + word::rest(word::word_of(b), mini, slot)
-}
-
-// The copies of a member, which stand from slot `slot` on.
-fn copies_in(b: &[u8], crumbs: bool, slot: usize, mini: u32, low: u32) -> usize
-    requires { ⌜ RankOf layout1 crumbs (now b) slot mini low ⌝ }
-    ensures { λ r. ⌜ r ≡ copies (mini * spanOf layout1 crumbs + low) (membersOf layout1 crumbs (now (b .entry))) ⌝ }
-{
-    let past = past_of(b, crumbs, slot, mini, low);
-    scan(b, crumbs, slot, past, low + 1) - slot
-}
-
-// The same for a key in a front bucket, and for a member in a backyard bucket.
-pub fn copies_front(b: &[u8], slot: usize, key: u32) -> usize
-    requires { ⌜ SoundFront layout1 (now b) × (key < keys layout1) × (slot ≡ below key (frontList layout1 (now b))) ⌝ }
-    ensures { λ r. ⌜ r ≡ copies key (frontList layout1 (now (b .entry))) ⌝ }
-{
-    copies_in(b, false, slot, key / TAGS, key % TAGS)
-}
-
-pub fn copies_back(b: &[u8], slot: usize, member: u32) -> usize
-    requires { ⌜ SoundBack layout1 (now b) × (member < keys layout1 * 16) × (slot ≡ below member (backList layout1 (now b))) ⌝ }
-    ensures { λ r. ⌜ r ≡ copies member (backList layout1 (now (b .entry))) ⌝ }
-{
-    copies_in(
-        b,
-        true,
-        slot,
-        member / slots::BACK_SPAN,
-        member % slots::BACK_SPAN,
-    )
-}
-
-// Whether a copy stands at that slot: it is one of the mini-bucket's, and holds no more.
-fn holds_in(b: &[u8], crumbs: bool, slot: usize, mini: u32, low: u32) -> bool
-    requires { ⌜ RankOf layout1 crumbs (now b) slot mini low ⌝ }
-    ensures { λ r. ⌜ r ≡ ltb 0 (copies (mini * spanOf layout1 crumbs + low) (membersOf layout1 crumbs (now (b .entry)))) ⌝ }
-{
-    if past_of(b, crumbs, slot, mini, low) == slot {
-        return false;
+    match found {
+        Search::At(_, copies) => copies,
+        Search::Absent => 0,
     }
-    low_of(b, crumbs, slot) <= low
-}
-
-// The same for a key in a front bucket.
-pub fn holds_front(b: &[u8], slot: usize, key: u32) -> bool
-    requires { ⌜ SoundFront layout1 (now b) × (key < keys layout1) × (slot ≡ below key (frontList layout1 (now b))) ⌝ }
-    ensures { λ r. ⌜ r ≡ ltb 0 (copies key (frontList layout1 (now (b .entry)))) ⌝ }
-{
-    holds_in(b, false, slot, key / TAGS, key % TAGS)
 }
 
 // How many members a bucket holds, front or backyard.

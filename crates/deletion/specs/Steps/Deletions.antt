@@ -2,10 +2,11 @@
 use mathlib.Core.Path.{_≡_}
 use Prim.Native.Nat.{ℕ, _+_, _*_, _<_}
 use mathlib.Core.Bool.{Bool, true, false, cond}
-use mathlib.Core.List.{List, _∷_}
+use mathlib.Core.List.{List}
+use mathlib.Core.Option.{Option, none, some}
 use lib.ListN.{length}
 use lib.Dec.{ltb}
-use Rattle.multiset.specs.Multisets.{added, removed, below, copies}
+use Rattle.multiset.specs.Multisets.{added, removed, below, copies, Found, foundIn}
 use Rattle.crumbmap.specs.Layouts.{Layout, keys}
 use Rattle.crumbmap.specs.CrumbMap.{firstBucket, secondBucket}
 use Rattle.crumbmap.specs.Steps.Places.{Leads}
@@ -20,7 +21,6 @@ use Rattle.machine.specs.Machine.{changed, bagIn, deleteAt}
 use Rattle.answers.specs.Answers.{refusal, Changes}
 use Rattle.answers.specs.declared.ChangeResult.{ChangeResult}
 use Rattle.image.specs.declared.Target.{Target}
-use Rattle.image.specs.declared.BackReading.{BackReading}
 use Rattle.image.specs.Steps.ImageReads.{At, Placed, FrontRead, BackRead, FrontFull, FrontSwapAt}
 use Rattle.deletion.specs.declared.Departure.{Departure}
 use Rattle.deletion.specs.declared.Leaving.{Leaving}
@@ -43,16 +43,19 @@ abbrev pub departing : Overflow → Carried → Leaving
 departing w (K.Key v i) = W.Member (record { way = w; slot = i; key = v })
 departing w K.Nothing = W.Nothing
 
+-- where a key was found, as a copy that leaves
+abbrev pub leaving : Overflow → ℕ → Option Found → Leaving
+leaving w x none = W.Nothing
+leaving w x (some s) = W.Member (record { way = w; slot = s .slot; key = x })
+
 module _ (L : Layout) where
   -- the smallest member of a backyard bucket that carries a crumb
   abbrev pub leastIn : ℕ → Overflow → List ℕ → Leaving
   leastIn B w img = let ys : List ℕ = inBack L B (w .bucket .0) img in departing w (firstOf (w .crumb) ys (carrying (w .crumb) ys))
 
-  -- a copy of key x with the crumb, in a bucket that was read for it
-  abbrev pub copyIn : ℕ → ℕ → BackReading → List ℕ → Leaving
-  copyIn B x r img =
-      cond (ltb 0 (copies (x * 16 + r .way .crumb) (inBack L B (r .way .bucket .0) img)))
-      (W.Member (record { way = r .way; slot = r .below; key = x })) W.Nothing
+  -- a copy of key x with the crumb, the lowest in a backyard bucket
+  abbrev pub copyIn : ℕ → ℕ → Overflow → List ℕ → Leaving
+  copyIn B x w img = leaving w x (foundIn (x * 16 + w .crumb) (inBack L B (w .bucket .0) img))
 
   -- a member stands in its backyard bucket, the lowest copy at its slot
   pub record Stands (B : ℕ) (d : Departure) (img : List ℕ) : Type 0 where

@@ -6,19 +6,17 @@ use mathlib.Core.List.{List}
 use mathlib.Core.Option.{Option, none, some}
 use lib.ListN.{length, getD}
 use lib.Dec.{eqb, ltb, leb}
-use Rattle.multiset.specs.Multisets.{largest}
+use Rattle.multiset.specs.Multisets.{foundIn, largest}
 use Rattle.crumbmap.specs.Layouts.{Layout, keys, fronts}
 use Rattle.crumbmap.specs.Fingerprints.{frontOf, keyOf}
 use Rattle.crumbmap.specs.CrumbMap.{firstBucket, secondBucket, firstCrumb}
 use Rattle.machine.specs.Results.{Result, accepted, refused, andThen, number}
-use Rattle.machine.specs.Images.{bucketAt, inFront, backAt}
+use Rattle.machine.specs.Images.{bucketAt, inFront, inBack}
 use Rattle.machine.specs.Machine.{Asked, askAt}
 use Rattle.machine.specs.Calls.{askOf}
 use Rattle.answers.specs.Rows.{receivedOf}
 use Rattle.answers.specs.declared.Entry.{Entry}
 use Rattle.image.specs.Steps.ImageReads.{Whole, FrontIn, FrontRead, BackRead, Exceeds}
-use Rattle.lookup.specs.Steps.Lookups.{soughtIn}
-use Rattle.lookup.specs.declared.Sought.the-variants.{Absent}
 use Rattle.grouping.specs.declared.State.{State}
 use Rattle.grouping.specs.declared.Turned.{Turned}
 use Rattle.grouping.specs.declared.Shared.{Shared}
@@ -29,9 +27,9 @@ abbrev pub sharedOf : Shared → Result ℕ
 sharedOf (S.Read n) = accepted n
 sharedOf (S.Unsound i) = refused 3 i
 
--- an entry with its reads, place and slot, and one by its lone ask
-abbrev pub filled : Entry → ℕ → ℕ → ℕ → Entry
-filled e reads place slot = record { hash = e .hash; reads = reads; place = place; slot = slot; copies = e .copies }
+-- an entry with its reads, place, slot and copies, and one by its lone ask
+abbrev pub filled : Entry → ℕ → ℕ → ℕ → ℕ → Entry
+filled e reads place slot copies = record { hash = e .hash; reads = reads; place = place; slot = slot; copies = copies }
 
 abbrev pub toldBy : Entry → Result Asked → Entry
 toldBy e (accepted a) = receivedOf e a
@@ -73,10 +71,11 @@ module _ (L : Layout) where
     pub first : 1 < reads → BackRead L B (firstBucket f) img
     pub second : 2 < reads → BackRead L B (secondBucket B f) img
 
-  -- key x exceeds the largest of the full front bucket f and is not in First(f)
+  -- key x exceeds the largest of the full front bucket f and is not in First(f), whose bucket was read
   pub record PastFirst (B f x : ℕ) (img : List ℕ) : Type 0 where
     pub over : Exceeds L f x img
-    pub absent : soughtIn (x * 16 + firstCrumb f) (backAt L B (firstBucket f) img) ≡ Absent
+    pub read : BackRead L B (firstBucket f) img
+    pub absent : foundIn (x * 16 + firstCrumb f) (inBack L B (firstBucket f) img) ≡ none
 
   -- how many are read once key x is asked for, where `reads` were
   abbrev pub sharing : ℕ → ℕ → ℕ → List ℕ → ℕ → Result ℕ

@@ -3,7 +3,7 @@ use mathlib.Core.Path.{_≡_}
 use Prim.Native.Nat.{ℕ, _≤_}
 use mathlib.Core.List.{List}
 use mathlib.Core.Option.{Option, none, some}
-use Rattle.multiset.specs.Multisets.{copies, slotOf, largest}
+use Rattle.multiset.specs.Multisets.{copies, Found, foundIn, largest}
 use Rattle.crumbmap.specs.Layouts.{Layout}
 use Rattle.machine.specs.Results.{Result, accepted, refused}
 use Rattle.machine.specs.Images.{inFront}
@@ -20,10 +20,10 @@ pub record Reaches (L : Layout) (t : Target) (here : ℕ) (img : List ℕ) : Typ
   pub many : here ≡ copies (t .key) (inFront L (t .front .0) img)
 
 -- what seeking member y in a backyard bucket finds
-abbrev pub atSlot : Option ℕ → Sought
-atSlot none = S.Absent
-atSlot (some i) = S.At i
+abbrev pub soughtBy : Option Found → Sought
+soughtBy none = S.Absent
+soughtBy (some s) = S.At (s .slot) (s .copies)
 
 abbrev pub soughtIn : ℕ → Result (List ℕ) → Sought
-soughtIn y (accepted ys) = atSlot (slotOf y ys)
+soughtIn y (accepted ys) = soughtBy (foundIn y ys)
 soughtIn y (refused n i) = S.Unsound i

@@ -1,14 +1,14 @@
 -- What search finds in a sound bucket, at any layout, and the members that are asked for. `crumbs` is true of a backyard bucket.
 use mathlib.Core.Path.{_≡_}
-use Prim.Native.Nat.{ℕ, _+_, _*_, _-_, _<_, _≤_}
-use mathlib.Core.Bool.{Bool, true, false}
+use Prim.Native.Nat.{ℕ, zero, suc, _+_, _*_, _-_, _<_, _≤_}
+use mathlib.Core.Bool.{Bool, true, false, cond}
 use mathlib.Core.List.{List, [], _∷_}
 use mathlib.Core.Option.{Option, none, some}
 use lib.ListN.{take}
 use lib.Dec.{eqb}
-use Rattle.multiset.specs.Multisets.{below}
+use Rattle.multiset.specs.Multisets.{below, copies, Found}
 use Rattle.multiset.specs.Digits.{value}
-use Rattle.crumbmap.specs.Layouts.{Layout}
+use Rattle.crumbmap.specs.Layouts.{Layout, tags}
 use Rattle.buckets.specs.Buckets.{carrying}
 use Rattle.words.specs.Select.{selectIn}
 use Rattle.words.specs.Steps.Wide.{wordBytes1}
@@ -16,6 +16,8 @@ use Rattle.minifilter.specs.Steps.Readings.{Sound, membersOf}
 use Rattle.minifilter.specs.Steps.Slots.{spanOf, lowAt, crumbAt, tagAt}
 use Rattle.search.specs.declared.Carried.{Carried}
 use Rattle.search.specs.declared.Carried.the-variants.{Key, Nothing}
+use Rattle.search.specs.declared.Search.{Search}
+use Rattle.search.specs.declared.Search.the-variants.{At, Absent}
 
 -- ---- where a member stands
 
@@ -40,16 +42,25 @@ module _ (L : Layout) (crumbs : Bool) where
     pub smaller : (i : ℕ) → from ≤ i → i < r → lowAt L crumbs b i < low
     pub here : r < past → low ≤ lowAt L crumbs b r
 
--- r is the first of a front bucket's slots that holds the tag t, one past the last where none does
-pub record FirstTagged (L : Layout) (b : List ℕ) (t r : ℕ) : Type 0 where
-  pub stop : r ≤ L .frontSlots
-  pub others : (i : ℕ) → i < r → tagAt L false b i ≡ t → ⊥
-  pub here : r < L .frontSlots → tagAt L false b r ≡ t
+-- the marks of the n numbers from i on, the lowest first: 1 where f takes t
+unfoldable pub marksOf : (ℕ → ℕ) → ℕ → ℕ → ℕ → ℕ
+marksOf f t i zero = 0
+marksOf f t i (suc n) = cond (eqb (f i) t) 1 0 + 2 * marksOf f t (suc i) n
 
--- a slot that was found; where none was, one past the last that a bucket can have
-abbrev pub seatOf : Layout → Option ℕ → ℕ
-seatOf L none = L .frontSlots
-seatOf L (some i) = i
+-- a key of mini-bucket m and tag t stands in a front bucket, from `slot` on, and these are the marks of the slots from there on that hold t
+pub record Marked (L : Layout) (b : List ℕ) (slot m t marks : ℕ) : Type 0 where
+  pub rank : RankOf L false b slot m t
+  pub there : 0 < copies (m * tags L + t) (membersOf L false b)
+  pub marks-are : marks ≡ marksOf (tagAt L false b) t slot (L .frontSlots - slot)
+
+-- what a search gives, and the copies that it found
+abbrev pub searchOf : Option Found → Search
+searchOf none = Absent
+searchOf (some s) = At (s .slot) (s .copies)
+
+abbrev pub manyIn : Search → ℕ
+manyIn Absent = 0
+manyIn (At i n) = n
 
 -- layout 1: the place of the one that ends the mini-bucket before m, of mini-bucket 0's own where there is none before it
 abbrev pub endOf1 : List ℕ → ℕ → ℕ

@@ -1,18 +1,30 @@
--- `asked` gives reads, place and slot in one number, or the refusal.
-use native.Mathlib.Omega.{arith}
+-- `asked` gives reads, place, slot and copies in one number, or the refusal.
 use mathlib.Core.Path.{_∙_}
-use Rattle.capi.proofs.ResultLaws.{within-accepted}
+use Prim.Native.Nat.{_^_, _<_}
+use native.Mathlib.Omega.{arith}
 use borrow.Author.Needs.{needs}
+use Rattle.answers.specs.Answers.{placeOf}
+use Rattle.capi.specs.Packing.{askWord}
+use Rattle.capi.proofs.ResultLaws.{within-accepted}
 use Rattle.capi.proofs.pack.asked.Statement.{statement}
 use Rattle.capi.proofs.pack.asked.Tie as tie
 
-place-word-requires : tie.Need-place-word-requires
-place-word-requires c κs = omega (arith, within-accepted (rw (c .before .before .given .given .1) at (c .before .before .before .before .pre)))
+-- the answer fits
+small : (c : tie.After-struct-known) → let a = c .before .before .given .given .0 .0 in
+    askWord (record { reads = a .reads; place = placeOf (a .place); copies = a .copies }) < 2 ^ 56
+small c = within-accepted (rw (c .before .before .given .given .1) at (c .before .before .before .before .pre))
 
-add-t8 : tie.Need-add-t8
-add-t8 c =
-    let g = c .before .before .before in
-    rw (c .place-word .ensures) (omega (arith, within-accepted (rw (g .given .given .1) at (g .before .before .pre))))
+place-word-requires : tie.Need-place-word-requires
+place-word-requires c κs = omega (arith, small c)
+
+add-at : tie.Need-add-at
+add-at c = rw (c .place-word .ensures) (omega (arith, small (c .before)))
+
+mul-copies : tie.Need-mul-copies
+mul-copies c = omega (arith, small (c .before))
+
+add-copies : tie.Need-add-t9
+add-copies c = rw (c .place-word .ensures) (omega (arith, small (c .before)))
 
 returns : tie.Need-returns
 returns c = rw (c .before .before .before .given .given .1, c .place-word .ensures)
@@ -27,7 +39,9 @@ asked-spec =
     (λ c. search needs)
     (λ c. search needs)
     place-word-requires
-    add-t8
+    add-at
+    mul-copies
+    add-copies
     (λ c. search needs)
     (λ c κs. search needs)
     returns

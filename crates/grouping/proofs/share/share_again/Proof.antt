@@ -1,16 +1,18 @@
 -- `grouping::share::share_again` meets its contract: the key is in b0, and the ask reads no more (`first-found`), or b1 is read.
 use mathlib.Core.Path.{_≡_}
 use mathlib.Core.Bool.{true}
+use mathlib.Core.Option.{Option}
 use Prim.Native.Nat.{_+_, _*_}
 use native.Mathlib.Omega.{arith}
 use borrow.Author.Needs.{needs}
-use Rattle.multiset.specs.Multisets.{slotOf}
+use Rattle.multiset.specs.Multisets.{Found, foundIn}
 use Rattle.crumbmap.specs.Layouts.{layout1}
 use Rattle.crumbmap.specs.CrumbMap.{firstBucket, firstCrumb}
-use Rattle.search.specs.Steps.Searches.{seatOf}
+use Rattle.search.specs.Steps.Searches.{searchOf}
+use Rattle.search.proofs.FoundLaws.{search-some, search-none}
 use Rattle.machine.specs.Images.{inBack}
 use Rattle.image.proofs.ImageReadLaws.{bag-read}
-use Rattle.grouping.proofs.LoneLaws.{seat-some, seat-none, way-seat, first-found, shares}
+use Rattle.grouping.proofs.LoneLaws.{way-found, first-found, shares}
 use Rattle.grouping.proofs.share.share_again.Statement.{statement}
 use Rattle.grouping.proofs.share.share_again.Tie as tie
 
@@ -18,33 +20,35 @@ use Rattle.grouping.proofs.share.share_again.Tie as tie
 abbrev start : tie.After-seek-at → tie.Start
 start c = c .before .before .before
 
--- the seat that was found is that of the key with its crumb in b0
-seat : (c : tie.After-seek-at) → let a = start c .args in let f = a .front .0 in
-    c .seek-at .result ≡ seatOf layout1 (slotOf (a .key * 16 + firstCrumb f) (inBack layout1 (a .size) (firstBucket f) (a .image .now)))
-seat c = let a = start c .args in way-seat layout1 true (c .before .first-of .ensures) (a .key) (a .image .now) (c .seek-at .ensures)
+-- where the key stands in b0 with its crumb, and what was found
+abbrev standing : tie.After-seek-at → Option Found
+standing c =
+    let a = start c .args in
+    let f = a .front .0 in
+    foundIn (a .key * 16 + firstCrumb f) (inBack layout1 (a .size) (firstBucket f) (a .image .now))
+
+found : (c : tie.After-seek-at) → c .seek-at .result ≡ searchOf (standing c)
+found c = let a = start c .args in way-found layout1 true (c .before .first-of .ensures) (a .key) (a .image .now) (c .seek-at .ensures)
 
 seek-at-requires : tie.Need-seek-at-requires
 seek-at-requires c κs = let p = c .before .before .pre in (bag-read (c .first-of .ensures) (p .3), p .1)
 
-returns : tie.Need-returns
-returns c =
-    let k = c .before in
+share-second-requires : tie.Need-share-second-requires
+share-second-requires c κs =
+    let k = c .before .before in
+    let p = start k .pre in
+    (p .0, p .1, record { over = p .2; read = p .3; absent = search-none (standing k) (found k) (c .enum-told2 .given .1) }, omega arith)
+
+returns-2 : tie.Need-returns-2
+returns-2 c =
+    let k = c .before .before in
     let s = start k in
     let a = s .args in
     let f = a .front .0 in
     shares layout1 (a .size) f (a .key) (a .image .now)
-    (first-found layout1 (a .size) f (a .key) (a .image .now) (s .pre .2) (s .pre .3) (seat-some layout1 _ (seat k) (omega (arith, c .if1 .taken)))) (omega arith)
-
-share-second-requires : tie.Need-share-second-requires
-share-second-requires c κs =
-    let k = c .before in
-    let s = start k in
-    let a = s .args in
-    let f = a .front .0 in
-    let r = s .pre .3 in
-    let none = seat-none layout1 (a .key * 16 + firstCrumb f) (inBack layout1 (a .size) (firstBucket f) (a .image .now)) (omega (arith, r .list .room)) (seat k)
-    (omega (arith, c .if1 .left)) in
-    (s .pre .0, s .pre .1, record { over = s .pre .2; absent = rw (r .accepts, none) }, omega arith)
+    (first-found layout1 (a .size) f (a .key) (a .image .now) (s .pre .2) (s .pre .3) (search-some (standing k) (found k) (c .enum-told .given .1))) (omega arith)
 
 pub share-again-spec : {M : Type 1} → statement M
-share-again-spec = tie.close (tie.spec (λ c κs. search needs) seek-at-requires returns share-second-requires (λ c. search needs))
+share-again-spec =
+    tie.close
+    (tie.spec (λ c κs. search needs) seek-at-requires (λ c. search needs) (λ c. search needs) share-second-requires (λ c. search needs) returns-2)

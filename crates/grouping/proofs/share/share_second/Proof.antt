@@ -1,60 +1,69 @@
--- `grouping::share::share_second` meets its contract: what seeking in b1 finds settles the ask (`ask-second`), of which it is the third read.
+-- `grouping::share::share_second` meets its contract: b1 is unsound, or it is the third read of the ask.
 use mathlib.Core.Path.{_≡_, _∙_}
+use mathlib.Core.Bool.{false}
 use native.Mathlib.Omega.{arith}
 use borrow.Author.Needs.{needs}
 use Rattle.crumbmap.specs.Layouts.{layout1}
-use Rattle.crumbmap.specs.CrumbMap.{firstBucket, firstCrumb}
-use Prim.Native.Nat.{_+_, _*_}
-use Rattle.machine.specs.Images.{backAt}
-use Rattle.machine.specs.Machine.{askAt, asked, nowhere, second}
-use Rattle.image.proofs.ImageReadLaws.{back-in}
-use Rattle.lookup.specs.declared.Sought.{Sought}
-use Rattle.lookup.proofs.AskSteps.{sought, ask-second}
-use Rattle.grouping.proofs.LoneLaws.{absent-sound, past-first, shares, bars}
+use Rattle.machine.specs.Machine.{askAt}
+use Rattle.image.proofs.ImageReadLaws.{back-in, way-read, way-unsound}
+use Rattle.lookup.proofs.AskSteps.{secondly}
+use Rattle.grouping.proofs.LoneLaws.{past-first, second-read, second-unsound, shares, bars}
 use Rattle.grouping.proofs.share.share_second.Statement.{statement}
 use Rattle.grouping.proofs.share.share_second.Tie as tie
 
--- the start, where b1 was sought in
-abbrev start : tie.After-seek → tie.Start
-start c = c .before .before .before
+-- the points of the walk: b1 is read; where it is; the start
+abbrev way : tie.After-read-back-at → tie.After-second-of
+way c = c .before .before
 
--- the ask by what was found there
-settled : (c : tie.After-seek) {r : Sought} → c .seek .result ≡ r → let a = start c .args in
-    sought (λ i. asked 3 (second i)) (asked 3 nowhere) r ≡ askAt layout1 (a .size) (a .front .0) (a .key) (a .image .now)
-settled c e =
+abbrev start : tie.After-second-of → tie.Start
+start c = c .before .before
+
+-- the ask goes on to b1
+goes-on : (c : tie.After-second-of) → let a = start c .args in
+    secondly layout1 (a .size) (a .front .0) (a .key) (a .image .now) ≡ askAt layout1 (a .size) (a .front .0) (a .key) (a .image .now)
+goes-on c =
     let s = start c in
     let a = s .args in
-    let f = a .front .0 in
     let p = s .pre .2 in
-    let q = absent-sound (a .key * 16 + firstCrumb f) (backAt layout1 (a .size) (firstBucket f) (a .image .now)) (p .absent) in
-    ask-second layout1 (a .size) f (a .key) (a .image .now) (c .seek .ensures) e (c .before .second-of .ensures)
-    ∙ past-first layout1 (a .size) f (a .key) (a .image .now) (p .over) (q .1) (q .2)
+    past-first layout1 (a .size) (a .front .0) (a .key) (a .image .now) (p .over) (p .read .accepts) (p .absent)
 
-seek-requires : tie.Need-seek-requires
-seek-requires c κs =
-    let p = c .before .before .pre in
-    let l = c .second-of .ensures in
-    (back-in (p .0 .whole) (l .inside), l .small, p .1)
+read-back-at-requires : tie.Need-read-back-at-requires
+read-back-at-requires c κs =
+    let p = start (c .before) .pre in
+    let l = c .before .second-of .ensures in
+    (back-in (p .0 .whole) (l .inside), omega (arith, l .small, p .1))
 
 returns : tie.Need-returns
 returns c =
-    let k = c .before .before .before in
-    let a = start k .args in
-    bars layout1 (a .size) (a .front .0) (a .key) (a .image .now) (a .reads) (settled k (c .before .table .given .1))
+    let r = c .before .before .before in
+    let w = way r in
+    let a = start w .args in
+    let l = w .second-of .ensures in
+    let e = way-unsound layout1 false l (a .key) (a .image .now) (r .read-back-at .ensures) (c .before .enum-told2 .given .1) in
+    rw (c .table-of .ensures, l .bucket)
+    (bars layout1 (a .size) (a .front .0) (a .key) (a .image .now) (a .reads)
+    (second-unsound layout1 (a .size) (a .front .0) (a .key) (a .image .now) e ∙ goes-on w))
 
 returns-2 : tie.Need-returns-2
 returns-2 c =
-    let k = c .before .before in
-    let a = start k .args in
-    shares layout1 (a .size) (a .front .0) (a .key) (a .image .now) (settled k (c .enum-told .given .1)) (omega (arith, start k .pre .3))
-
-returns-3 : tie.Need-returns-3
-returns-3 c =
-    let k = c .before .before in
-    let a = start k .args in
-    shares layout1 (a .size) (a .front .0) (a .key) (a .image .now) (settled k (c .enum-told2 .given .1)) (omega (arith, start k .pre .3))
+    let r = c .before .before in
+    let w = way r in
+    let s = start w in
+    let a = s .args in
+    let b1 = way-read layout1 false (w .second-of .ensures) (a .key) (a .image .now) (r .read-back-at .ensures) (c .enum-told .given .1) in
+    let t = second-read layout1 (a .size) (a .front .0) (a .key) (a .image .now) (b1 .read) in
+    rw (t .2) at (shares layout1 (a .size) (a .front .0) (a .key) (a .image .now) {reads = a .reads} (t .1 ∙ goes-on w) (omega (arith, t .2, s .pre .3)))
 
 pub share-second-spec : {M : Type 1} → statement M
 share-second-spec =
     tie.close
-    (tie.spec (λ c κs. search needs) seek-requires (λ c. search needs) (λ c. search needs) (λ c. search needs) returns returns-2 returns-3)
+    (tie.spec
+    (λ c κs. search needs)
+    (λ c. search needs)
+    (λ c. search needs)
+    read-back-at-requires
+    (λ c. search needs)
+    (λ c. search needs)
+    (λ c κs. search needs)
+    returns
+    returns-2)

@@ -2,12 +2,14 @@
 use mathlib.Core.Path.{_≡_, sym, ap, _∙_}
 use Prim.Native.Nat.{ℕ}
 use mathlib.Core.List.{List}
+use mathlib.Core.Option.{none, some}
 use native.Mathlib.Omega.{arith}
 use borrow.Author.Needs.{needs}
-use Rattle.multiset.specs.Multisets.{slotOf}
+use Rattle.multiset.specs.Multisets.{foundIn}
 use Rattle.crumbmap.specs.Layouts.{layout1}
 use Rattle.buckets.proofs.BucketLaws.{fits1}
-use Rattle.search.specs.Steps.Searches.{seatOf}
+use Rattle.search.specs.Steps.Searches.{searchOf}
+use Rattle.search.proofs.FoundLaws.{search-some, search-none}
 use Rattle.machine.specs.Results.{number}
 use Rattle.machine.specs.Images.{inFront}
 use Rattle.machine.specs.Machine.{askAt}
@@ -15,12 +17,18 @@ use Rattle.machine.specs.Calls.{askOf}
 use Rattle.image.specs.Steps.ImageReads.{FrontIn, FrontRead}
 use Rattle.image.proofs.ImageReadLaws.{front-in}
 use Rattle.grouping.specs.Steps.Grouping.{toldBy}
-use Rattle.grouping.proofs.LoneLaws.{lone-at, seat-some, seat-none, front-sound, near-front, near-none, reach-exceeds}
+use Rattle.grouping.proofs.LoneLaws.{lone-at, found-fits, front-sound, near-front, near-none, reach-exceeds}
 use Rattle.grouping.proofs.GroupLaws.{front-read}
 use Rattle.grouping.proofs.tell.tell.Statement.{statement}
 use Rattle.grouping.proofs.tell.tell.Tie as tie
 
--- the points of the walk: it was sought in front; the bytes are lent; key and front bucket are known; the start
+-- the points of the walk: a copy is in front, or none is; it was sought there; the bytes are lent; key and front bucket are known; the start
+abbrev told : tie.After-known-told → tie.After-seek-front
+told c = c .before .before .before
+
+abbrev denied : tie.After-enum-told → tie.After-seek-front
+denied c = c .before .before
+
 abbrev lent : tie.After-seek-front → tie.After-bucket
 lent c = c .before
 
@@ -58,9 +66,19 @@ read : (c : tie.After-key-of) → FrontRead layout1 (f c) (img c)
 read c =
     front-read fits1 (λ i. bytes c .shared-slice-known .given i .fits) (within c) (front-sound layout1 (start c .args .size) (f c) (x c) (img c) (fine c) .1)
 
--- the seat is that of the key there
-seat : (c : tie.After-seek-front) → let k = key (lent c) in c .seek-front .result ≡ seatOf layout1 (slotOf (x k) (inFront layout1 (f k) (img k)))
-seat c = rw (lent c .bucket .ensures .0) at (c .seek-front .ensures)
+-- what was found there, a copy or none
+abbrev members : tie.After-key-of → List ℕ
+members c = inFront layout1 (f c) (img c)
+
+found : (c : tie.After-seek-front) → let k = key (lent c) in c .seek-front .result ≡ searchOf (foundIn (x k) (members k))
+found c = rw (lent c .bucket .ensures .0) at (c .seek-front .ensures)
+
+here : (c : tie.After-known-told) → let k = key (lent (told c)) in let g = c .before .slot .given .0 in
+    foundIn (x k) (members k) ≡ some (record { slot = g .0; copies = g .1 .0 })
+here c = let k = key (lent (told c)) in search-some (foundIn (x k) (members k)) (found (told c)) (c .before .slot .given .1)
+
+none-here : (c : tie.After-enum-told) → let k = key (lent (denied c)) in foundIn (x k) (members k) ≡ none
+none-here c = let k = key (lent (denied c)) in search-none (foundIn (x k) (members k)) (found (denied c)) (c .enum-told .given .1)
 
 bucket-requires : tie.Need-bucket-requires
 bucket-requires c κs = front-in (within c)
@@ -68,39 +86,40 @@ bucket-requires c κs = front-in (within c)
 seek-front-requires : tie.Need-seek-front-requires
 seek-front-requires c κs = let k = key c in (rw (c .bucket .ensures .0) (read k .sound), k .key-of .ensures .1)
 
-returns : tie.Need-returns
-returns c =
-    let o = c .before .before in
-    let k = key (lent o) in
-    let a = start k .args in
-    c .answered .ensures ∙ ap (toldBy (a .e))
-    (near-front layout1 (a .size) (f k) (x k) (img k) (read k) (seat-some layout1 _ (seat o) (omega (arith, c .before .if1 .taken))) ∙ sym (lone k))
+answered-requires : tie.Need-answered-requires
+answered-requires c κs =
+    let k = key (lent (told c)) in
+    found-fits (x k) (members k) (here c) (omega (arith, read k .list .room))
 
 reach-requires : tie.Need-reach-requires
-reach-requires c κs = read (key (lent (c .before)))
+reach-requires c κs = read (key (lent (denied c)))
 
-returns-2 : tie.Need-returns-2
-returns-2 c =
+returns : tie.Need-returns
+returns c =
     let r = c .before .before in
-    let e = r .before in
-    let o = e .before in
-    let k = key (lent o) in
+    let o = r .before in
+    let k = key (lent (denied o)) in
     let a = start k .args in
     c .answered2 .ensures ∙ ap (toldBy (a .e))
-    (near-none layout1 (a .size) (f k) (x k) (img k) (read k)
-    (seat-none layout1 (x k) (inFront layout1 (f k) (img k)) (read k .list .room) (seat o) (omega (arith, e .if1 .left)))
-    (omega (arith, r .reach .ensures .0, c .before .if2 .taken)) ∙ sym (lone k))
+    (near-none layout1 (a .size) (f k) (x k) (img k) (read k) (none-here o) (omega (arith, r .reach .ensures .0, c .before .if1 .taken)) ∙ sym (lone k))
 
 tell-behind-requires : tie.Need-tell-behind-requires
 tell-behind-requires c κs =
     let r = c .before in
-    let k = key (lent (r .before .before)) in
+    let k = key (lent (denied (r .before))) in
     let l = k .key-of .ensures .1 in
-    (within k, l, reach-exceeds layout1 (f k) (img k) (read k) (x k) (omega (arith, r .reach .ensures .0, c .if2 .left)) l, fine k)
+    (within k, l, reach-exceeds layout1 (f k) (img k) (read k) (x k) (omega (arith, r .reach .ensures .0, c .if1 .left)) l, fine k)
+
+returns-2 : tie.Need-returns-2
+returns-2 c =
+    let t = c .before in
+    let k = key (lent (told t)) in
+    let a = start k .args in
+    c .answered .ensures ∙ ap (toldBy (a .e)) (near-front layout1 (a .size) (f k) (x k) (img k) (read k) (here t) ∙ sym (lone k))
 
 returns-3 : tie.Need-returns-3
 returns-3 c =
-    let k = key (lent (c .before .before .before .before)) in
+    let k = key (lent (denied (c .before .before .before))) in
     c .tell-behind .ensures ∙ ap (toldBy (start k .args .e)) (sym (lone k))
 
 pub tell-spec : {M : Type 1} → statement M
@@ -111,10 +130,12 @@ tell-spec =
     (λ c κs. search needs)
     bucket-requires
     seek-front-requires
-    (λ c κs. search needs)
-    returns
+    (λ c. search needs)
+    answered-requires
+    (λ c. search needs)
     reach-requires
     (λ c κs. search needs)
-    returns-2
+    returns
     tell-behind-requires
+    returns-2
     returns-3)

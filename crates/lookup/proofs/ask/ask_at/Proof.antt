@@ -1,20 +1,26 @@
 -- `lookup::ask::ask_at` meets its contract. The ask is settled by the front bucket, or goes on behind it.
-use mathlib.Core.Path.{_∙_}
+use mathlib.Core.Path.{_≡_, _∙_}
 use Prim.Native.Nat.{ℕ}
 use native.Mathlib.Omega.{arith}
 use borrow.Author.Needs.{needs}
+use Rattle.multiset.specs.Multisets.{foundIn, largest}
 use Rattle.crumbmap.specs.Layouts.{layout1}
+use Rattle.search.specs.Steps.Searches.{searchOf}
+use Rattle.machine.specs.Images.{inFront}
 use Rattle.image.proofs.ImageReadLaws.{front-in, front-unsound}
-use Rattle.lookup.proofs.FrontSteps.{Holds, holds, key-sought, largest-sought}
+use Rattle.lookup.proofs.FrontSteps.{Holds, holds, key-sought, key-found, largest-sought, largest-found}
 use Rattle.lookup.proofs.AskSteps.{ask-unsound, ask-here, ask-few, ask-low, exceeds}
 use Rattle.lookup.proofs.ask.ask_at.Statement.{statement}
 use Rattle.lookup.proofs.ask.ask_at.Tie as tie
 
--- the points of the walk: the largest is found; the copies are counted; the bytes are lent; the bucket is sound; it is read; the start
-abbrev counted : tie.After-largest-front → tie.After-copies-front
-counted c = c .before .before .before
+-- the points of the walk: the largest is found; no copy is in front; it was sought there; the bytes are lent; the bucket is sound; it is read; the start
+abbrev absent : tie.After-largest-front → tie.After-enum-told2
+absent c = c .before .before
 
-abbrev lent : tie.After-copies-front → tie.After-bucket
+abbrev sought : tie.After-enum-told2 → tie.After-find-front
+sought c = c .before .before
+
+abbrev lent : tie.After-find-front → tie.After-bucket
 lent c = c .before
 
 abbrev sound : tie.After-bucket → tie.After-known-told
@@ -36,6 +42,15 @@ front c =
     let a = start (read c) .args in
     holds layout1 (a .target .front .0) (a .target .key) (a .image .now) (read c .read-front-at .ensures) (c .before .n .given .1)
 
+-- what was found there: the key, and the largest
+key : (c : tie.After-find-front) → let a = start (read (sound (lent c))) .args in
+    c .find-front .result ≡ searchOf (foundIn (a .target .key) (inFront layout1 (a .target .front .0) (a .image .now)))
+key c = key-found (front (sound (lent c))) (lent c .bucket .ensures .0) (c .find-front .ensures)
+
+top : (c : tie.After-largest-front) → let a = start (read (sound (lent (sought (absent c))))) .args in
+    c .largest-front .result ≡ largest (inFront layout1 (a .target .front .0) (a .image .now))
+top c = let b = lent (sought (absent c)) in largest-found (front (sound b)) (b .bucket .ensures .0) (c .largest-front .ensures)
+
 read-front-at-requires : tie.Need-read-front-at-requires
 read-front-at-requires c κs = let p = c .before .before .pre in (front-in (p .within), p .key)
 
@@ -50,40 +65,38 @@ returns c =
 bucket-requires : tie.Need-bucket-requires
 bucket-requires c κs = front c .read .inside
 
-copies-front-requires : tie.Need-copies-front-requires
-copies-front-requires c κs = key-sought (front (sound c)) (c .bucket .ensures .0) (start (read (sound c)) .pre .key)
+find-front-requires : tie.Need-find-front-requires
+find-front-requires c κs = key-sought (front (sound c)) (c .bucket .ensures .0) (start (read (sound c)) .pre .key)
 
 returns-2 : tie.Need-returns-2
 returns-2 c =
-    let n = c .before in
-    let b = lent n in
-    ask-here (size (sound b)) (front (sound b)) (b .bucket .ensures .0) (n .copies-front .ensures) (omega arith)
-
-returns-3 : tie.Need-returns-3
-returns-3 c =
-    let n = c .before .before .before in
-    let b = lent n in
-    c .none-in .ensures ∙ ask-few (size (sound b)) (front (sound b)) (b .bucket .ensures .0) (n .copies-front .ensures) (omega arith) (omega arith)
+    let o = c .before .before in
+    let k = sound (lent (sought o)) in
+    c .none-in .ensures ∙ ask-few (size k) (front k) (key (sought o)) (o .enum-told2 .given .1) (omega arith)
 
 largest-front-requires : tie.Need-largest-front-requires
 largest-front-requires c κs =
-    let b = lent (c .before .before) in
+    let b = lent (sought (c .before)) in
     largest-sought (front (sound b)) (b .bucket .ensures .0) (omega arith)
 
-returns-4 : tie.Need-returns-4
-returns-4 c =
+returns-3 : tie.Need-returns-3
+returns-3 c =
     let t = c .before .before in
-    let n = counted t in
-    let b = lent n in
-    c .none-in2 .ensures
-    ∙ ask-low (size (sound b)) (front (sound b)) (b .bucket .ensures .0) (n .copies-front .ensures) (omega arith) (t .largest-front .ensures)
-    (omega arith) (omega arith)
+    let o = absent t in
+    let k = sound (lent (sought o)) in
+    c .none-in2 .ensures ∙ ask-low (size k) (front k) (key (sought o)) (o .enum-told2 .given .1) (omega arith) (top t) (omega arith)
 
 ask-behind-requires : tie.Need-ask-behind-requires
 ask-behind-requires c κs =
     let t = c .before in
-    let b = lent (counted t) in
-    (start (read (sound b)) .pre, exceeds (front (sound b)) (b .bucket .ensures .0) (omega arith) (t .largest-front .ensures) (omega arith))
+    let k = sound (lent (sought (absent t))) in
+    (start (read k) .pre, exceeds (front k) (omega arith) (top t) (omega arith))
+
+returns-4 : tie.Need-returns-4
+returns-4 c =
+    let s = c .before .before .before in
+    let k = sound (lent s) in
+    ask-here (size k) (front k) (key s) (c .before .slot .given .1)
 
 pub ask-at-spec : {M : Type 1} → statement M
 ask-at-spec =
@@ -94,12 +107,14 @@ ask-at-spec =
     (λ c. search needs)
     returns
     bucket-requires
-    copies-front-requires
-    returns-2
+    find-front-requires
+    (λ c. search needs)
+    (λ c. search needs)
     (λ c κs. search needs)
-    returns-3
+    returns-2
     largest-front-requires
     (λ c κs. search needs)
-    returns-4
+    returns-3
     ask-behind-requires
+    returns-4
     (λ c. search needs))

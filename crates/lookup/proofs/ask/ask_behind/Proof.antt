@@ -2,7 +2,7 @@
 use mathlib.Core.Path.{_≡_, _∙_}
 use borrow.Author.Needs.{needs}
 use Rattle.crumbmap.specs.Layouts.{layout1}
-use Rattle.machine.specs.Machine.{askAt, asked, nowhere, first, second}
+use Rattle.machine.specs.Machine.{askAt, asked, denied, first, second}
 use Rattle.image.proofs.ImageReadLaws.{back-in}
 use Rattle.lookup.specs.declared.Sought.{Sought}
 use Rattle.lookup.proofs.AskSteps.{sought, secondly, ask-first, ask-second}
@@ -27,7 +27,7 @@ start c = c .before .before .before
 
 -- the ask by what was found in b0, and by what was found in b1
 in-first : (c : tie.After-seek) {r : Sought} → c .seek .result ≡ r → let a = start (way1 c) .args in let t = a .target in
-    sought (λ i. asked 2 (first i)) (secondly layout1 (t .size) (t .front .0) (t .key) (a .image .now)) r
+    sought (asked 2 first) (secondly layout1 (t .size) (t .front .0) (t .key) (a .image .now)) r
     ≡ askAt layout1 (t .size) (t .front .0) (t .key) (a .image .now)
 in-first c e =
     let s = start (way1 c) in
@@ -35,7 +35,7 @@ in-first c e =
     ask-first layout1 (t .size) (t .front .0) (t .key) (s .args .image .now) (c .seek .ensures) e (s .pre .1) (way1 c .first-of .ensures)
 
 in-second : (c : tie.After-seek2) {r : Sought} → c .seek2 .result ≡ r → let a = start (way1 (sought1 (absent (way2 c)))) .args in let t = a .target in
-    sought (λ i. asked 3 (second i)) (asked 3 nowhere) r ≡ askAt layout1 (t .size) (t .front .0) (t .key) (a .image .now)
+    sought (asked 3 second) (denied 3) r ≡ askAt layout1 (t .size) (t .front .0) (t .key) (a .image .now)
 in-second c e =
     let o = absent (way2 c) in
     let a = start (way1 (sought1 o)) .args in
