@@ -7,7 +7,7 @@ use lib.ListN.{length}
 use Rattle.multiset.specs.Multisets.{largest}
 use Rattle.crumbmap.specs.Layouts.{Layout}
 
--- front bucket xs "holds fewer than 28", or 28 of which the largest exceeds key x: no copy of x stands behind it
+-- front bucket xs has a slot left, or its largest exceeds key x: no copy of x stands behind it
 abbrev pub Short : Layout → List ℕ → ℕ → Type 0
 Short L xs x = (length xs < L .frontSlots) ⊎ ((length xs ≡ L .frontSlots) × (x < largest xs))
 
