@@ -8,9 +8,8 @@ use mathlib.Core.Option.{Option, none, some}
 use native.Mathlib.Omega.{arith}
 use lib.ListN.{length}
 use lib.Dec.{eqb, ltb}
-use borrow.Author.Tests.{eq-eqb, ne-eqb, lt-ltb, le-ltb, eqb-true}
+use borrow.Author.Tests.{eq-eqb, ne-eqb, le-ltb, eqb-true}
 use Rattle.multiset.specs.Multisets.{Found, foundIn, largest}
-use Rattle.multiset.proofs.RankLaws.{found-none}
 use Rattle.crumbmap.specs.Layouts.{Layout, keys, fronts}
 use Rattle.crumbmap.specs.CrumbMap.{firstBucket, secondBucket, firstCrumb, secondCrumb, bucketOf, crumbOf}
 use Rattle.crumbmap.specs.Fingerprints.{frontOf, keyOf}
@@ -21,13 +20,13 @@ use Rattle.search.specs.Steps.Searches.{searchOf}
 use Rattle.search.specs.declared.Search.{Search}
 use Rattle.machine.specs.Results.{Result, accepted, refused, andThen, number, orUnsound}
 use Rattle.machine.specs.Images.{bucketAt, frontAt, backAt, inFront, inBack}
-use Rattle.machine.specs.Machine.{Asked, asked, denied, front, first, second, found, askAt}
+use Rattle.machine.specs.Machine.{Asked, asked, denied, front, first, second, askAt}
 use Rattle.machine.specs.Calls.{askOf}
+use Rattle.machine.proofs.AskLaws.{askSecond, askBehind}
 use Rattle.machine.proofs.RoomLaws.{found-room}
 use Rattle.machine.proofs.RowLaws.{ask-at}
 use Rattle.image.specs.Steps.ImageReads.{Whole, FrontRead, BackRead, Exceeds}
-use Rattle.image.proofs.ImageReadLaws.{whole-sized, exceeds-absent}
-use Rattle.lookup.proofs.AskSteps.{secondly}
+use Rattle.image.proofs.ImageReadLaws.{whole-sized, ask-exceeds}
 use Rattle.grouping.specs.Steps.Grouping.{reachAt, sharing}
 
 -- ---- a search
@@ -121,62 +120,54 @@ module _ (L : Layout) (B f x : ℕ) (img : List ℕ) where
   -- ---- an ask of a key that exceeds the largest of a full front bucket
 
   module _ (over : Exceeds L f x img) where
-    -- it goes on to b0
-    goes-behind : askAt L B f x img
-        ≡ andThen (backAt L B (firstBucket f) img) λ ys. found (foundIn (x * 16 + firstCrumb f) ys) (asked 2 first) (secondly L B f x img)
-    unfolding askAt secondly
-    goes-behind = rw (
-      over .whole .read .accepts,
-      found-none x (inFront L f img) (exceeds-absent over),
-      eq-eqb (length (inFront L f img)) (L .frontSlots) (over .whole .full),
-      lt-ltb (largest (inFront L f img)) x (over .over),
-    )
-
     pub first-found : BackRead L B (firstBucket f) img → {s : Found} → foundIn (x * 16 + firstCrumb f) (inBack L B (firstBucket f) img) ≡ some s
         → asked 2 first s ≡ askAt L B f x img
-    first-found r e = sym (goes-behind ∙ rw (r .accepts, e))
+    unfolding askBehind
+    first-found r e = sym (ask-exceeds B over ∙ rw (r .accepts, e))
 
     pub first-unsound : {i : ℕ} → backAt L B (firstBucket f) img ≡ refused 3 i → refused 3 i ≡ askAt L B f x img
-    first-unsound e = sym (goes-behind ∙ rw e)
+    unfolding askBehind
+    first-unsound e = sym (ask-exceeds B over ∙ rw e)
 
     -- it is not there, and the ask goes on to b1
     pub past-first : {ys : List ℕ} → backAt L B (firstBucket f) img ≡ accepted ys → foundIn (x * 16 + firstCrumb f) ys ≡ none
-        → secondly L B f x img ≡ askAt L B f x img
-    past-first r e = sym (goes-behind ∙ rw (r, e))
+        → askSecond L B f x img ≡ askAt L B f x img
+    unfolding askBehind
+    past-first r e = sym (ask-exceeds B over ∙ rw (r, e))
 
     -- an accepted ask has found b0 sound, and b1 where it went on
     pub first-sound : number (askAt L B f x img) ≡ 0 → (ys : List ℕ) × (backAt L B (firstBucket f) img ≡ accepted ys)
-    unfolding backAt
+    unfolding backAt askBehind
     first-sound e =
-        then-sound (fronts B + firstBucket f) (backMembers L B (firstBucket f) (bucketAt (fronts B + firstBucket f) img)) _ (sym (ap number goes-behind) ∙ e)
+        then-sound (fronts B + firstBucket f) (backMembers L B (firstBucket f) (bucketAt (fronts B + firstBucket f) img)) _ (sym (ap number (ask-exceeds B over)) ∙ e)
 
     pub second-sound : {ys : List ℕ} → backAt L B (firstBucket f) img ≡ accepted ys → foundIn (x * 16 + firstCrumb f) ys ≡ none
         → number (askAt L B f x img) ≡ 0 → (zs : List ℕ) × (backAt L B (secondBucket B f) img ≡ accepted zs)
-    unfolding backAt secondly
+    unfolding backAt askSecond
     second-sound r e h =
         then-sound (fronts B + secondBucket B f) (backMembers L B (secondBucket B f) (bucketAt (fronts B + secondBucket B f) img)) _
         (ap number (past-first r e) ∙ h)
 
   -- what is found in b1
   pub second-found : BackRead L B (secondBucket B f) img → {s : Found} → foundIn (x * 16 + secondCrumb f) (inBack L B (secondBucket B f) img) ≡ some s
-      → asked 3 second s ≡ secondly L B f x img
-  unfolding secondly
+      → asked 3 second s ≡ askSecond L B f x img
+  unfolding askSecond
   second-found r e = rw (r .accepts, e)
 
   pub none-found : BackRead L B (secondBucket B f) img → foundIn (x * 16 + secondCrumb f) (inBack L B (secondBucket B f) img) ≡ none
-      → denied 3 ≡ secondly L B f x img
-  unfolding secondly
+      → denied 3 ≡ askSecond L B f x img
+  unfolding askSecond
   none-found r e = rw (r .accepts, e)
 
   -- found or not, it is the third read
-  pub second-read : BackRead L B (secondBucket B f) img → (a : Asked) × (accepted a ≡ secondly L B f x img) × (a .reads ≡ 3)
+  pub second-read : BackRead L B (secondBucket B f) img → (a : Asked) × (accepted a ≡ askSecond L B f x img) × (a .reads ≡ 3)
   second-read r = go (foundIn (x * 16 + secondCrumb f) (inBack L B (secondBucket B f) img)) refl
     where
       go : (o : Option Found) → foundIn (x * 16 + secondCrumb f) (inBack L B (secondBucket B f) img) ≡ o
-          → (a : Asked) × (accepted a ≡ secondly L B f x img) × (a .reads ≡ 3)
+          → (a : Asked) × (accepted a ≡ askSecond L B f x img) × (a .reads ≡ 3)
       go none e = (_, none-found r e, refl)
       go (some s) e = (_, second-found r e, refl)
 
-  pub second-unsound : {i : ℕ} → backAt L B (secondBucket B f) img ≡ refused 3 i → refused 3 i ≡ secondly L B f x img
-  unfolding secondly
+  pub second-unsound : {i : ℕ} → backAt L B (secondBucket B f) img ≡ refused 3 i → refused 3 i ≡ askSecond L B f x img
+  unfolding askSecond
   second-unsound e = rw e

@@ -22,7 +22,8 @@ use Rattle.minifilter.specs.declared.Reading.{Reading}
 use Rattle.minifilter.specs.declared.Reading.the-variants as R
 use Rattle.machine.specs.Results.{Result, accepted, refused, andThen}
 use Rattle.machine.specs.Images.{sizeOf, sized, frontAt, backAt, inFront, inBack}
-use Rattle.machine.specs.Machine.{backyard}
+use Rattle.machine.specs.Machine.{backyard, askAt}
+use Rattle.machine.proofs.AskLaws.{askBehind, ask-behind}
 use Rattle.machine.proofs.ImageLaws.{sizeOf-some, sizeOf-lengthOf, front-inside, back-inside}
 use Rattle.image.specs.Steps.ImageReads.{sizing, Locates, LocatedIn, Whole, FrontIn, Placed, BackIn, At, FrontRead, BackRead, FrontSays, BackSays, BothRead, Reads, ReadFor, BackyardSays, FrontFull, Exceeds, BagRead}
 use Rattle.image.specs.declared.Size.{Size}
@@ -154,6 +155,10 @@ exceeds-absent {L} {f} {x} {img} e = go (copies x (inFront L f img)) (largest-ma
     go : (n : ℕ) → (0 < n → x ≤ largest (inFront L f img)) → n ≡ 0
     go zero h = refl
     go (suc n) h = absurd (omega (arith, h (omega arith), e .over))
+
+-- its ask goes on behind the front bucket
+pub ask-exceeds : {L : Layout} (B : ℕ) {f x : ℕ} {img : List ℕ} → Exceeds L f x img → askAt L B f x img ≡ askBehind L B f x img
+ask-exceeds {L} B {f} {x} {img} e = ask-behind L B f x img (inFront L f img) (e .whole .read .accepts) (exceeds-absent e) (e .whole .full) (e .over)
 
 -- a front bucket that was read and holds as many as its slots, or more, holds just as many
 pub front-full : {L : Layout} {f n : ℕ} {img : List ℕ} → FrontRead L f img → length (inFront L f img) ≡ n → L .frontSlots ≤ n → FrontFull L f img

@@ -1,17 +1,16 @@
--- The endings of an ask, for any layout. In front: `ask-unsound`, `ask-here`, `ask-few`, `ask-low`; behind a full front bucket (`exceeds`), by what
+-- The endings of an ask, for any layout. In front: `ask-here`, `ask-few`, `ask-low`; behind a full front bucket (`exceeds`), by what
 -- seeking in b0 and then in b1 finds: `ask-first`, `ask-second`.
-use mathlib.Core.Path.{_≡_, refl, sym}
+use mathlib.Core.Path.{_≡_, refl, sym, _∙_}
 use Prim.Native.Nat.{ℕ, _+_, _*_, _≤_, _<_}
 use mathlib.Core.Bool.{Bool, true, false}
 use mathlib.Core.List.{List}
 use mathlib.Core.Option.{Option, none, some}
 use native.Mathlib.Omega.{arith}
 use lib.ListN.{length}
-use borrow.Author.Tests.{eq-eqb, ne-eqb, lt-ltb, le-ltb}
+use borrow.Author.Tests.{eq-eqb, ne-eqb, le-ltb}
 use Rattle.multiset.specs.Multisets.{Found, foundIn, largest}
-use Rattle.multiset.proofs.RankLaws.{found-none}
 use Rattle.crumbmap.specs.Layouts.{Layout, fronts}
-use Rattle.crumbmap.specs.CrumbMap.{secondBucket, secondCrumb, bucketOf, crumbOf}
+use Rattle.crumbmap.specs.CrumbMap.{bucketOf, crumbOf}
 use Rattle.crumbmap.specs.Steps.Places.{Leads}
 use Rattle.crumbmap.specs.declared.Overflow.{Overflow}
 use Rattle.buckets.specs.Buckets.{backMembers}
@@ -20,20 +19,17 @@ use Rattle.search.specs.declared.Search.{Search}
 use Rattle.search.specs.declared.Search.the-variants.{At, Absent}
 use Rattle.search.proofs.FoundLaws.{search-some, search-none}
 use Rattle.machine.specs.Results.{Result, refused, andThen, orUnsound}
-use Rattle.machine.specs.Images.{bucketAt, frontAt, backAt, inFront}
+use Rattle.machine.specs.Images.{bucketAt, backAt, inFront}
 use Rattle.machine.specs.Machine.{Asked, asked, denied, front, first, second, found, askAt}
+use Rattle.machine.proofs.AskLaws.{askSecond, askBehind}
 use Rattle.image.specs.Steps.ImageReads.{Exceeds}
-use Rattle.image.proofs.ImageReadLaws.{exceeds-absent}
+use Rattle.image.proofs.ImageReadLaws.{ask-exceeds}
 use Rattle.lookup.specs.Steps.Lookups.{soughtBy, soughtIn}
 use Rattle.lookup.specs.declared.Sought.{Sought}
 use Rattle.lookup.specs.declared.Sought.the-variants as S
 use Rattle.lookup.proofs.FrontSteps.{Holds, holds-all}
 
 -- ---- in front
-
-pub ask-unsound : (L : Layout) (B f x : ℕ) (img : List ℕ) {i : ℕ} → frontAt L f img ≡ refused 3 i → refused 3 i ≡ askAt L B f x img
-unfolding askAt
-ask-unsound L B f x img e = rw e
 
 -- the bucket was read, and searched for x
 module _ {L : Layout} (B : ℕ) {f x n slot : ℕ} {img : List ℕ} (h : Holds L f x img n slot) {r : Search}
@@ -81,12 +77,6 @@ seeking : (i y : ℕ) (at : Found → Result Asked) (other : Result Asked) (o : 
 seeking i y at other none = refl
 seeking i y at other (some ys) = by-found at other (foundIn y ys)
 
--- the search of b1
-unfoldable pub secondly : Layout → ℕ → ℕ → ℕ → List ℕ → Result Asked
-secondly L B f x img =
-    andThen (backAt L B (secondBucket B f) img) λ zs.
-    found (foundIn (x * 16 + secondCrumb f) zs) (asked 3 second) (denied 3)
-
 -- the bucket that a choice leads to was sought in, and r was found
 module _ (L : Layout) (B f x : ℕ) (img : List ℕ) {w : Overflow} {o r : Sought}
     (said : o ≡ soughtIn (x * 16 + w .crumb) (backAt L B (w .bucket .0) img)) (told : o ≡ r) where
@@ -96,17 +86,10 @@ module _ (L : Layout) (B f x : ℕ) (img : List ℕ) {w : Overflow} {o r : Sough
   seeks t leads at other = rw (sym told, said, leads .bucket, leads .crumb) (seeking (fronts B + bucketOf t B f) (x * 16 + crumbOf t f) at other
       (backMembers L B (bucketOf t B f) (bucketAt (fronts B + bucketOf t B f) img)))
 
-  pub ask-first : Exceeds L f x img → Leads true B f w → sought (asked 2 first) (secondly L B f x img) r ≡ askAt L B f x img
-  unfolding askAt secondly
-  ask-first e leads =
-      rw (
-        e .whole .read .accepts,
-        found-none x (inFront L f img) (exceeds-absent e),
-        eq-eqb (length (inFront L f img)) (L .frontSlots) (e .whole .full),
-        lt-ltb (largest (inFront L f img)) x (e .over),
-      )
-      (sym (seeks true leads (asked 2 first) (secondly L B f x img)))
+  pub ask-first : Exceeds L f x img → Leads true B f w → sought (asked 2 first) (askSecond L B f x img) r ≡ askAt L B f x img
+  unfolding askBehind
+  ask-first e leads = sym (ask-exceeds B e ∙ seeks true leads (asked 2 first) (askSecond L B f x img))
 
-  pub ask-second : Leads false B f w → sought (asked 3 second) (denied 3) r ≡ secondly L B f x img
-  unfolding secondly
+  pub ask-second : Leads false B f w → sought (asked 3 second) (denied 3) r ≡ askSecond L B f x img
+  unfolding askSecond
   ask-second leads = sym (seeks false leads (asked 3 second) (denied 3))

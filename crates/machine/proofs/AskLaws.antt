@@ -1,6 +1,7 @@
 -- Counts and asks on a good image: a count gives `total`; an ask is yes exactly when `total` is above nought, reads the backyard exactly when the
--- members that are smaller fill the front bucket, and tells `total` where the backyard has none of it. Main results: `count-total`, `ask-in-front` and its like, `ask-total`.
-use mathlib.Core.Path.{_≡_, refl, sym, ap}
+-- members that are smaller fill the front bucket, and tells `total` where the backyard has none of it. Main results: `count-total`, `ask-behind`,
+-- `ask-in-front` and its like, `ask-total`.
+use mathlib.Core.Path.{_≡_, refl, sym, ap, _∙_}
 use mathlib.Core.Logic.{_↔_, _⊎_, inl, inr, ⊎-elim}
 use Prim.Native.Nat.{ℕ, suc, _+_, _*_, _≤_, _<_}
 use mathlib.Core.Bool.{Bool, true, false}
@@ -11,15 +12,15 @@ use lib.ListN.{length}
 use lib.Dec.{ltb, leb, eqb, T}
 use lib.Arith.{lt-of-le-ne}
 use borrow.Author.Tests.{ltb-true, ltb-false, leb-false, eqb-true, eqb-false, eq-eqb, lt-ltb}
-use Rattle.multiset.specs.Multisets.{copies, below, largest, ascending, sum}
+use Rattle.multiset.specs.Multisets.{copies, below, foundIn, largest, ascending, sum}
 use Rattle.multiset.proofs.OrderLaws.{copies-largest, largest-max}
 use Rattle.multiset.proofs.RankLaws.{below-suc, below-all, below-lt-length, below-le-length, found-none, found-some, sum-copies}
 use Rattle.crumbmap.specs.Layouts.{Layout, fronts}
 use Rattle.crumbmap.specs.CrumbMap.{bucketOf, firstBucket, secondBucket, firstCrumb, secondCrumb}
 use Rattle.crumbmap.proofs.CrumbMapLaws.{bucketOf-lt}
-use Rattle.machine.specs.Results.{accepted}
+use Rattle.machine.specs.Results.{Result, accepted, refused, andThen}
 use Rattle.machine.specs.Images.{frontAt, backAt, inFront, inBack}
-use Rattle.machine.specs.Machine.{Place, nowhere, front, first, second, counted, countAt, Asked, asked, denied, askAt}
+use Rattle.machine.specs.Machine.{Place, nowhere, front, first, second, counted, countAt, Asked, asked, denied, found, askAt}
 use Rattle.machine.specs.Copies.{Short, Told}
 use Rattle.machine.proofs.Invariant.{Good, part, over, total}
 use Rattle.machine.proofs.OverflowLaws.{bucketOf-read}
@@ -54,6 +55,26 @@ both-hold a c = (λ _. c, λ _. a)
 both-fail : {A C : Type 0} → (A → ⊥) → (C → ⊥) → A ↔ C
 both-fail a c = (λ x. absurd (a x), λ x. absurd (c x))
 
+-- ---- an ask whose front bucket is unsound, and one past a full front bucket, in any image
+
+module _ (L : Layout) (B f x : ℕ) (img : List ℕ) where
+  pub ask-unsound : {i : ℕ} → frontAt L f img ≡ refused 3 i → refused 3 i ≡ askAt L B f x img
+  unfolding askAt
+  ask-unsound e = rw e
+
+  -- the search of b1, and that of b0 before it
+  unfoldable pub askSecond : Result Asked
+  askSecond = andThen (backAt L B (secondBucket B f) img) λ zs. found (foundIn (x * 16 + secondCrumb f) zs) (asked 3 second) (denied 3)
+
+  unfoldable pub askBehind : Result Asked
+  askBehind = andThen (backAt L B (firstBucket f) img) λ ys. found (foundIn (x * 16 + firstCrumb f) ys) (asked 2 first) askSecond
+
+  pub ask-behind : (xs : List ℕ) → frontAt L f img ≡ accepted xs → copies x xs ≡ 0 → length xs ≡ L .frontSlots → largest xs < x
+      → askAt L B f x img ≡ askBehind
+  unfolding askAt askBehind askSecond
+  ask-behind xs read none full past =
+      rw (read, found-none x xs none, eq-eqb (length xs) (L .frontSlots) full, lt-ltb (largest xs) x past)
+
 -- ---- the one bag where an ask ends, in any image: it tells that bag's copies, whatever stands in the others
 
 module _ (L : Layout) (B f x : ℕ) (img xs : List ℕ) (read : frontAt L f img ≡ accepted xs) where
@@ -64,21 +85,23 @@ module _ (L : Layout) (B f x : ℕ) (img xs : List ℕ) (read : frontAt L f img 
   module _ (none : copies x xs ≡ 0) (full : length xs ≡ L .frontSlots) (past : largest xs < x) (ys : List ℕ) (first-read : backAt L B (firstBucket f) img ≡ accepted ys) where
     pub ask-in-first : T (ascending ys) → 0 < copies (x * 16 + firstCrumb f) ys
         → askAt L B f x img ≡ asked 2 first (record { slot = below (x * 16 + firstCrumb f) ys; copies = copies (x * 16 + firstCrumb f) ys })
-    unfolding askAt
-    ask-in-first a c = rw (read, found-none x xs none, eq-eqb _ _ full, lt-ltb _ _ past, first-read, found-some _ _ a c) refl
+    unfolding askBehind
+    ask-in-first a c = ask-behind L B f x img xs read none full past ∙ rw (first-read, found-some _ _ a c) refl
 
     -- not in First(f) either
     module _ (none-first : copies (x * 16 + firstCrumb f) ys ≡ 0) (zs : List ℕ) (second-read : backAt L B (secondBucket B f) img ≡ accepted zs) where
+      goes-on : askAt L B f x img ≡ askSecond L B f x img
+      unfolding askBehind
+      goes-on = ask-behind L B f x img xs read none full past ∙ rw (first-read, found-none _ _ none-first)
+
       pub ask-in-second : T (ascending zs) → 0 < copies (x * 16 + secondCrumb f) zs
           → askAt L B f x img ≡ asked 3 second (record { slot = below (x * 16 + secondCrumb f) zs; copies = copies (x * 16 + secondCrumb f) zs })
-      unfolding askAt
-      ask-in-second a c =
-          rw (read, found-none x xs none, eq-eqb _ _ full, lt-ltb _ _ past, first-read, found-none _ _ none-first, second-read, found-some _ _ a c) refl
+      unfolding askSecond
+      ask-in-second a c = goes-on ∙ rw (second-read, found-some _ _ a c) refl
 
       pub ask-in-none : copies (x * 16 + secondCrumb f) zs ≡ 0 → askAt L B f x img ≡ denied 3
-      unfolding askAt
-      ask-in-none c =
-          rw (read, found-none x xs none, eq-eqb _ _ full, lt-ltb _ _ past, first-read, found-none _ _ none-first, second-read, found-none _ _ c) refl
+      unfolding askSecond
+      ask-in-none c = goes-on ∙ rw (second-read, found-none _ _ c) refl
 
 -- ---- on a good image
 

@@ -2,4 +2,5 @@
 pub mod SearchLaws
 pub mod FoundLaws
 pub mod ListLaws
+pub mod MarkLaws
 pub mod TagLaws

@@ -4,7 +4,7 @@ use native.Mathlib.Omega.{arith}
 use borrow.Author.Needs.{needs}
 use Rattle.crumbmap.specs.Layouts.{layout1}
 use Rattle.image.proofs.ImageReadLaws.{front-in, front-told, front-unsound}
-use Rattle.lookup.proofs.AskSteps.{ask-unsound}
+use Rattle.machine.proofs.AskLaws.{ask-unsound}
 use Rattle.grouping.proofs.LoneLaws.{bars}
 use Rattle.grouping.proofs.GroupLaws.{front-group, first-shared}
 use Rattle.grouping.proofs.share.share.Statement.{statement}

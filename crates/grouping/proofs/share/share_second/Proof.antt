@@ -5,8 +5,8 @@ use native.Mathlib.Omega.{arith}
 use borrow.Author.Needs.{needs}
 use Rattle.crumbmap.specs.Layouts.{layout1}
 use Rattle.machine.specs.Machine.{askAt}
+use Rattle.machine.proofs.AskLaws.{askSecond}
 use Rattle.image.proofs.ImageReadLaws.{back-in, way-read, way-unsound}
-use Rattle.lookup.proofs.AskSteps.{secondly}
 use Rattle.grouping.proofs.LoneLaws.{past-first, second-read, second-unsound, shares, bars}
 use Rattle.grouping.proofs.share.share_second.Statement.{statement}
 use Rattle.grouping.proofs.share.share_second.Tie as tie
@@ -20,7 +20,7 @@ start c = c .before .before
 
 -- the ask goes on to b1
 goes-on : (c : tie.After-second-of) → let a = start c .args in
-    secondly layout1 (a .size) (a .front .0) (a .key) (a .image .now) ≡ askAt layout1 (a .size) (a .front .0) (a .key) (a .image .now)
+    askSecond layout1 (a .size) (a .front .0) (a .key) (a .image .now) ≡ askAt layout1 (a .size) (a .front .0) (a .key) (a .image .now)
 goes-on c =
     let s = start c in
     let a = s .args in

@@ -15,9 +15,9 @@ use Rattle.search.specs.Steps.Searches.{searchOf}
 use Rattle.search.proofs.FoundLaws.{search-some, search-none}
 use Rattle.machine.specs.Images.{inBack}
 use Rattle.machine.specs.Machine.{askAt}
+use Rattle.machine.proofs.AskLaws.{askSecond}
 use Rattle.image.specs.Steps.ImageReads.{BackRead}
 use Rattle.image.proofs.ImageReadLaws.{back-in, bag-read}
-use Rattle.lookup.proofs.AskSteps.{secondly}
 use Rattle.grouping.specs.Steps.Grouping.{toldBy}
 use Rattle.grouping.proofs.LoneLaws.{way-found, found-fits, first-found, first-sound, past-first, second-sound, second-found, none-found}
 use Rattle.grouping.proofs.GroupLaws.{back-read}
@@ -107,7 +107,7 @@ none2 c = let w = way2 (denied2 c) in search-none (foundIn (member2 w) (members2
 
 -- the ask goes on to b1
 goes-on : (c : tie.After-second-of) → let a = start (begun c) .args in
-    secondly layout1 (a .size) (a .front .0) (a .key) (a .image .now) ≡ askAt layout1 (a .size) (a .front .0) (a .key) (a .image .now)
+    askSecond layout1 (a .size) (a .front .0) (a .key) (a .image .now) ≡ askAt layout1 (a .size) (a .front .0) (a .key) (a .image .now)
 goes-on c =
     let k = begun c in
     let a = start k .args in

@@ -7,9 +7,10 @@ use Rattle.multiset.specs.Multisets.{foundIn, largest}
 use Rattle.crumbmap.specs.Layouts.{layout1}
 use Rattle.search.specs.Steps.Searches.{searchOf}
 use Rattle.machine.specs.Images.{inFront}
+use Rattle.machine.proofs.AskLaws.{ask-unsound}
 use Rattle.image.proofs.ImageReadLaws.{front-in, front-unsound}
 use Rattle.lookup.proofs.FrontSteps.{Holds, holds, key-sought, key-found, largest-sought, largest-found}
-use Rattle.lookup.proofs.AskSteps.{ask-unsound, ask-here, ask-few, ask-low, exceeds}
+use Rattle.lookup.proofs.AskSteps.{ask-here, ask-few, ask-low, exceeds}
 use Rattle.lookup.proofs.ask.ask_at.Statement.{statement}
 use Rattle.lookup.proofs.ask.ask_at.Tie as tie
 

@@ -3,9 +3,10 @@ use mathlib.Core.Path.{_≡_, _∙_}
 use borrow.Author.Needs.{needs}
 use Rattle.crumbmap.specs.Layouts.{layout1}
 use Rattle.machine.specs.Machine.{askAt, asked, denied, first, second}
+use Rattle.machine.proofs.AskLaws.{askSecond}
 use Rattle.image.proofs.ImageReadLaws.{back-in}
 use Rattle.lookup.specs.declared.Sought.{Sought}
-use Rattle.lookup.proofs.AskSteps.{sought, secondly, ask-first, ask-second}
+use Rattle.lookup.proofs.AskSteps.{sought, ask-first, ask-second}
 use Rattle.lookup.proofs.ask.ask_behind.Statement.{statement}
 use Rattle.lookup.proofs.ask.ask_behind.Tie as tie
 
@@ -27,7 +28,7 @@ start c = c .before .before .before
 
 -- the ask by what was found in b0, and by what was found in b1
 in-first : (c : tie.After-seek) {r : Sought} → c .seek .result ≡ r → let a = start (way1 c) .args in let t = a .target in
-    sought (asked 2 first) (secondly layout1 (t .size) (t .front .0) (t .key) (a .image .now)) r
+    sought (asked 2 first) (askSecond layout1 (t .size) (t .front .0) (t .key) (a .image .now)) r
     ≡ askAt layout1 (t .size) (t .front .0) (t .key) (a .image .now)
 in-first c e =
     let s = start (way1 c) in
