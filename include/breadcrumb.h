@@ -1,9 +1,19 @@
 /*
  * The breadcrumb catalogue: a multiset of 64-bit hashes in a lent byte slice.
  *
- * An image has 576 * B + 448 bytes, B from 1 to 65,536: F = 8 * B front buckets and B + 7
- * backyard buckets of 64 bytes each. What is kept of a hash is its fingerprint; hashes with equal
- * fingerprints are alike to every call, and each copy is a member of its own.
+ * An image has 576 * B + 512 bytes, B from 1 to 65,536: F = 8 * B front buckets and B + 7
+ * backyard buckets of 64 bytes each, then a tail of 64 bytes. What is kept of a hash is its
+ * fingerprint; hashes with equal fingerprints are alike to every call, and each copy is a member of
+ * its own.
+ *
+ * The tail has the total of the members in bytes 0 to 7 and the change count in 8 to 15, both
+ * little-endian, the layout in byte 16, which is 1, and 0 in the rest. An accepted insert adds 1 to
+ * both numbers, an accepted delete takes 1 from the total and adds 1 to the change count; a fresh
+ * image, a merged one and one moved from the old form start with the change count 0. A bad tail has
+ * another layout, a rest byte that is not 0, or a total above the slots of the image.
+ *
+ * An old image is one without the tail, 576 * B + 448 bytes. bcf_attach and bcf_detach move between
+ * the two forms; all other functions take the new form only.
  *
  * The library keeps no state and allocates nothing. Every function takes any bytes and any
  * numbers. The slices of one call must not overlap, but the two sources of a merge may be one
@@ -23,23 +33,31 @@
 extern "C" {
 #endif
 
-/* The length of an image and its numbers of buckets, for B from 1 to 65,536. */
-#define BCF_LENGTH(b) ((size_t)576 * (b) + 448)
+/* The length of an image and of an old one, its numbers of buckets, and the slots of all buckets,
+ * for B from 1 to 65,536. */
+#define BCF_LENGTH(b) ((size_t)576 * (b) + 512)
+#define BCF_OLD_LENGTH(b) ((size_t)576 * (b) + 448)
 #define BCF_FRONTS(b) ((uint64_t)8 * (b))
 #define BCF_BACKYARDS(b) ((uint64_t)(b) + 7)
+#define BCF_SLOTS(b) ((uint64_t)246 * (b) + 154)
 
 /* Numbers. */
 enum {
     BCF_ACCEPTED = 0,
-    BCF_WRONG_LENGTH = 1,   /* no image has this length */
-    BCF_LENGTHS_DIFFER = 2, /* merge: the three lengths are not the same */
+    BCF_WRONG_LENGTH = 1,   /* no image of the form asked for has this length */
+    BCF_LENGTHS_DIFFER = 2, /* merge, attach, detach: the images do not have one B */
     BCF_UNSOUND = 3,        /* a bucket that was read is unsound: BCF_TABLE_NUMBER */
     BCF_FULL = 4,           /* insert, merge: both backyard buckets are full */
     BCF_ABSENT = 5,         /* delete: no such member */
     BCF_PAST_THE_END = 6,   /* page: start is above F; occupancy: a page past the last */
-    BCF_DOES_NOT_FIT = 7,   /* page: bucket start does not fit; occupancy: an output too short */
-    BCF_EARLY = 8,          /* check, merge: a backyard member before its turn: BCF_TABLE_NUMBER */
-    BCF_DESCENDING = 10     /* row: an entry's front bucket is below that of the entry before it */
+    BCF_DOES_NOT_FIT = 7,   /* page: bucket start does not fit; occupancy, tail: output too short */
+    BCF_EARLY = 8,          /* check, merge, attach, detach: a backyard member before its turn:
+                               BCF_TABLE_NUMBER */
+    BCF_DESCENDING = 10,    /* row: an entry's front bucket is below that of the entry before it */
+    BCF_BAD_TAIL = 11,      /* the tail is bad */
+    BCF_MISCOUNTED = 12,    /* check, merge, detach: the total differs from the members; insert,
+                               delete: it would go above the slots or below 0 */
+    BCF_SPENT = 13          /* insert, delete: the change count is at its top, 2^64 - 1 */
 };
 
 #define BCF_NUMBER(answer) ((unsigned)((uint64_t)(answer) >> 56))
@@ -49,11 +67,16 @@ enum {
  * j has F + j. */
 #define BCF_TABLE_NUMBER(answer) BCF_VALUE(answer)
 
-/* Every bucket empty. The image may hold any bytes before. */
+/* Every bucket empty, total and change count 0. The image may hold any bytes before. */
 uint64_t bcf_fresh(uint8_t *image, size_t length);
 
-/* Tells whether every bucket is sound and every backyard member in its turn. */
+/* Tells whether every bucket is sound, every backyard member in its turn, and the total that of the
+ * members. */
 uint64_t bcf_check(const uint8_t *image, size_t length);
+
+/* Writes the total into out[0] and the change count into out[1]; the rest of the output keeps its
+ * content. No bucket is read. Value: 0. */
+uint64_t bcf_tail(const uint8_t *image, size_t length, uint64_t *out, size_t out_length);
 
 /* Value: 0, or 1 + the backyard bucket that took the overflow. */
 uint64_t bcf_insert(uint8_t *image, size_t length, uint64_t hash);
@@ -119,9 +142,18 @@ uint64_t bcf_occupancy(const uint8_t *image, size_t length, uint64_t page, uint8
                        size_t out_length);
 
 /* Checks both sources, then writes the members of both into the target, which may hold any bytes
- * before. All three have one length. */
+ * before. All three have one length. The totals are added, the change count is 0. */
 uint64_t bcf_merge(const uint8_t *first, size_t first_length, const uint8_t *second,
                    size_t second_length, uint8_t *target, size_t target_length);
+
+/* Checks an old image, then writes its bytes and a tail behind them into the target, which may hold
+ * any bytes before: the total is that of the members, the change count 0. Both have one B.
+ * Value: 0. */
+uint64_t bcf_attach(const uint8_t *old, size_t old_length, uint8_t *target, size_t target_length);
+
+/* Checks an image, then writes its bytes without the tail into the target, which has the length of
+ * an old image and may hold any bytes before. Both have one B. Value: 0. */
+uint64_t bcf_detach(const uint8_t *image, size_t length, uint8_t *target, size_t target_length);
 
 #ifdef __cplusplus
 }

@@ -1,17 +1,19 @@
 /*
- * A day of readings from C: 96 quarter hours of 20 houses are filed, asked for, taken out and
- * merged with another day, a house's day is asked for in one row, and lines of an occupancy page
- * are printed. Prints the same as the example in Rust.
+ * A day of readings from C: 96 quarter hours of 20 houses are filed, asked for, taken out, moved to
+ * the old form and back, and merged with another day, a house's day is asked for in one row, and
+ * lines of an occupancy page are printed. Prints the same as the example in Rust.
  */
 #include "breadcrumb.h"
 
 #include <inttypes.h>
 #include <stdio.h>
 #include <stdlib.h>
+#include <string.h>
 
 enum { B = 20, HOUSES = 20, QUARTERS = 96 };
 
-static uint8_t today[576 * B + 448], tomorrow[576 * B + 448], both[576 * B + 448];
+static uint8_t today[BCF_LENGTH(B)], tomorrow[BCF_LENGTH(B)], both[BCF_LENGTH(B)];
+static uint8_t old[BCF_OLD_LENGTH(B)];
 
 /* SplitMix64's finaliser. */
 static uint64_t hash_of(uint64_t house, uint64_t quarter)
@@ -41,6 +43,14 @@ static void file_day(uint8_t *image, uint64_t from)
             behind += value(bcf_insert(image, BCF_LENGTH(B), hash_of(house, quarter))) != 0;
     value(bcf_check(image, BCF_LENGTH(B)));
     printf("filed %d readings, %d times with overflow\n", HOUSES * QUARTERS, behind);
+}
+
+/* What the tail of an image tells, without a walk. */
+static void print_tail(const char *name, const uint8_t *image)
+{
+    uint64_t out[2];
+    value(bcf_tail(image, BCF_LENGTH(B), out, 2));
+    printf("%s: total %" PRIu64 ", change count %" PRIu64 "\n", name, out[0], out[1]);
 }
 
 /* Walks the pages of an image. */
@@ -121,8 +131,18 @@ int main(void)
     printf("taken out a third time: %u\n",
            BCF_NUMBER(bcf_delete(today, sizeof today, hash_of(7, 30))));
 
+    print_tail("today", today);
+
+    /* The targets may hold any bytes. */
+    value(bcf_detach(today, sizeof today, old, sizeof old));
+    value(bcf_attach(old, sizeof old, both, sizeof both));
+    printf("old form: %zu bytes, the same buckets: %s\n", sizeof old,
+           memcmp(old, today, sizeof old) == 0 ? "yes" : "no");
+    print_tail("moved there and back", both);
+
     value(bcf_merge(today, sizeof today, tomorrow, sizeof tomorrow, both, sizeof both));
     list("both days", both);
+    print_tail("both days", both);
     ask_day(both, 7);
     print_lines(both, 3, 4);
     both[0] = 0xFF;

@@ -1,8 +1,8 @@
-//! A day of readings: 96 quarter hours of 20 houses are filed, asked for, taken out and merged
-//! with another day, a house's day is asked for in one row, and lines of an occupancy page are
-//! printed. Prints the same as the example in C.
+//! A day of readings: 96 quarter hours of 20 houses are filed, asked for, taken out, moved to the
+//! old form and back, and merged with another day, a house's day is asked for in one row, and lines
+//! of an occupancy page are printed. Prints the same as the example in C.
 
-use breadcrumb::{Changed, Entry, Image, Place, Refusal};
+use breadcrumb::{Changed, Entry, Image, Place, Refusal, Tail};
 
 const B: usize = 20;
 const HOUSES: u64 = 20;
@@ -16,7 +16,7 @@ fn hash_of(house: u64, quarter: u64) -> u64 {
     z ^ (z >> 31)
 }
 
-fn file_day(from: u64) -> Result<Image<Vec<u8>>, Refusal> {
+fn file_day(from: u64) -> Result<Image, Refusal> {
     let mut image = Image::new(B)?;
     let mut behind = 0;
     for house in 0..HOUSES {
@@ -29,6 +29,13 @@ fn file_day(from: u64) -> Result<Image<Vec<u8>>, Refusal> {
     let readings = HOUSES * QUARTERS;
     println!("filed {readings} readings, {behind} times with overflow");
     Ok(image)
+}
+
+/// What the tail of an image tells, without a walk.
+fn print_tail<Bytes: AsRef<[u8]>>(name: &str, image: &Image<Bytes>) -> Result<(), Refusal> {
+    let Tail { total, changes } = image.tail()?;
+    println!("{name}: total {total}, change count {changes}");
+    Ok(())
 }
 
 /// Walks the pages of an image.
@@ -98,11 +105,24 @@ fn main() -> Result<(), Refusal> {
         println!("taken out a third time: 5");
     }
 
+    print_tail("today", &today)?;
+
+    let old = today.detach()?;
+    let length = old.bytes().len();
+    let same = if today.bytes().starts_with(old.bytes()) {
+        "yes"
+    } else {
+        "no"
+    };
+    println!("old form: {length} bytes, the same buckets: {same}");
+    print_tail("moved there and back", &old.attach()?)?;
+
     // The target may be lent bytes of any content.
     let mut bytes = vec![0; today.bytes().len()];
     let mut both = Image::over(&mut bytes[..]);
     both.merge(&today, &tomorrow)?;
     list("both days", &both)?;
+    print_tail("both days", &both)?;
     ask_day(&both, 7)?;
     // The first lines of page 3.
     for line in both.occupancy_pages()?.lines().skip(3 * 24).take(4) {

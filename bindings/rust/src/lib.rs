@@ -1,19 +1,29 @@
 //! A safe wrapper over the C functions of the proved breadcrumb catalogue.
 //!
 //! A catalogue is a multiset of 64-bit hashes, kept as fingerprints in the bytes of an image:
-//! 576 × B + 448 bytes, B from 1 to 65,536. Hashes with equal fingerprints are alike.
+//! 576 × B + 512 bytes, B from 1 to 65,536. Hashes with equal fingerprints are alike. The last 64
+//! bytes, the tail, hold the total of the members and a change count. An old image has no tail.
 //!
 //! ```no_run
 //! use breadcrumb::{Image, Place};
 //!
-//! let mut image = Image::new(113).unwrap();
+//! let mut image = Image::new(112).unwrap();
 //! image.insert(0x8000000040000007).unwrap();
 //! assert_ne!(image.ask(0x8000000040000007).unwrap().place, Place::None);
+//! assert_eq!(image.total(), Ok(1));
 //! ```
 
 pub mod packed;
 
 use std::fmt;
+
+/// Bytes of a tail: an image is so much longer than an old one.
+const TAIL_BYTES: usize = 64;
+
+/// The length of an image.
+const fn length(b: usize) -> usize {
+    576 * b + 512
+}
 
 /// Bytes of an occupancy page.
 pub const OCCUPANCY_BYTES: usize = 1008;
@@ -22,9 +32,10 @@ pub const OCCUPANCY_BYTES: usize = 1008;
 /// that is full, which is then fresh.
 #[derive(Clone, Copy, PartialEq, Eq, Debug)]
 pub enum Refusal {
-    /// 1: the length is not 576 × B + 448 with B from 1 to 65,536.
+    /// 1: the length is not 576 × B + 512 with B from 1 to 65,536; of an old image, not
+    /// 576 × B + 448.
     WrongLength,
-    /// 2: the three images of a merge differ in length.
+    /// 2: the images of a merge or a move do not have one B.
     LengthsDiffer,
     /// 3: a bucket that was read is unsound; its table number.
     Unsound(u64),
@@ -34,13 +45,20 @@ pub enum Refusal {
     Absent,
     /// 6: a page from beyond the last front bucket, or an occupancy page past the last.
     PastTheEnd,
-    /// 7: the first front bucket of a page does not fit into the output, or an occupancy page does
-    /// not.
+    /// 7: the first front bucket of a page does not fit into the output, or an occupancy page or a
+    /// tail does not.
     DoesNotFit,
     /// 8: a backyard bucket has a member before its turn; its table number.
     Early(u64),
     /// 10: an entry of a row has a front bucket below that of the entry before it.
     Descending,
+    /// 11: the tail has an unknown layout, a rest byte that is not 0, or a total above the slots.
+    BadTail,
+    /// 12: the total differs from the members, or an insert or delete would take it above the slots
+    /// or below 0.
+    Miscounted,
+    /// 13: the change count is at its top, 2^64 - 1.
+    Spent,
     /// A number that this wrapper does not know, with its value.
     Other(u8, u64),
 }
@@ -57,6 +75,9 @@ impl fmt::Display for Refusal {
             Refusal::DoesNotFit => write!(f, "7: the output is too short"),
             Refusal::Early(table) => write!(f, "8: bucket {table} has a member before its turn"),
             Refusal::Descending => write!(f, "10: the front buckets of the row descend"),
+            Refusal::BadTail => write!(f, "11: the tail is bad"),
+            Refusal::Miscounted => write!(f, "12: the total is not that of the members"),
+            Refusal::Spent => write!(f, "13: the change count is at its top"),
             Refusal::Other(number, value) => write!(f, "{number}: {value}"),
         }
     }
@@ -142,6 +163,15 @@ pub struct Paged {
     pub next: u64,
 }
 
+/// What the tail of an image tells.
+#[derive(Clone, Copy, PartialEq, Eq, Debug)]
+pub struct Tail {
+    /// The members, each copy counted.
+    pub total: u64,
+    /// The accepted inserts and deletes since the image was fresh, merged or moved from an old one.
+    pub changes: u64,
+}
+
 /// The value of a packed answer, or the refusal.
 fn unpack(answer: u64) -> Result<u64, Refusal> {
     let (number, value) = ((answer >> 56) as u8, answer & ((1 << 56) - 1));
@@ -156,6 +186,9 @@ fn unpack(answer: u64) -> Result<u64, Refusal> {
         7 => Refusal::DoesNotFit,
         8 => Refusal::Early(value),
         10 => Refusal::Descending,
+        11 => Refusal::BadTail,
+        12 => Refusal::Miscounted,
+        13 => Refusal::Spent,
         _ => Refusal::Other(number, value),
     })
 }
@@ -179,17 +212,45 @@ fn place(number: u64, slot: u64) -> Place {
 
 /// A catalogue in bytes of any kind: owned as `Vec<u8>`, or lent as `&mut [u8]` or `&[u8]`.
 #[derive(Clone, PartialEq, Eq, Debug)]
-pub struct Image<Bytes> {
+pub struct Image<Bytes = Vec<u8>> {
     bytes: Bytes,
 }
 
-impl Image<Vec<u8>> {
+/// A catalogue in document 01's form, without a tail, in bytes of any kind.
+#[derive(Clone, PartialEq, Eq, Debug)]
+pub struct OldImage<Bytes = Vec<u8>> {
+    bytes: Bytes,
+}
+
+impl<Bytes: AsRef<[u8]>> OldImage<Bytes> {
+    /// These bytes as an old image. Nothing is tested here: the move tests them.
+    pub fn over(bytes: Bytes) -> Self {
+        OldImage { bytes }
+    }
+
+    pub fn bytes(&self) -> &[u8] {
+        self.bytes.as_ref()
+    }
+
+    pub fn into_bytes(self) -> Bytes {
+        self.bytes
+    }
+
+    /// The same members with a tail, once they are checked: the total is theirs, the change count 0.
+    pub fn attach(&self) -> Result<Image, Refusal> {
+        let mut target = vec![0; self.bytes().len() + TAIL_BYTES];
+        unpack(packed::attach(self.bytes(), &mut target))?;
+        Ok(Image::over(target))
+    }
+}
+
+impl Image {
     /// A fresh image of its own with 8 × B front buckets.
     pub fn new(b: usize) -> Result<Self, Refusal> {
         if b == 0 || b > 65536 {
             return Err(Refusal::WrongLength);
         }
-        let mut image = Image::over(vec![0; 576 * b + 448]);
+        let mut image = Image::over(vec![0; length(b)]);
         image.fresh()?;
         Ok(image)
     }
@@ -209,9 +270,35 @@ impl<Bytes: AsRef<[u8]>> Image<Bytes> {
         self.bytes
     }
 
-    /// Whether every bucket is sound and every backyard member in its turn.
+    /// Whether every bucket is sound, every backyard member in its turn, and the total that of the
+    /// members.
     pub fn check(&self) -> Result<(), Refusal> {
         unpack(packed::check(self.bytes())).map(|_| ())
+    }
+
+    /// The total and the change count. No bucket is read.
+    pub fn tail(&self) -> Result<Tail, Refusal> {
+        let mut out = [0; 2];
+        unpack(packed::tail(self.bytes(), &mut out))?;
+        let [total, changes] = out;
+        Ok(Tail { total, changes })
+    }
+
+    /// The members, each copy counted, as the tail tells them.
+    pub fn total(&self) -> Result<u64, Refusal> {
+        self.tail().map(|tail| tail.total)
+    }
+
+    /// The accepted inserts and deletes since the image was fresh, merged or moved from an old one.
+    pub fn changes(&self) -> Result<u64, Refusal> {
+        self.tail().map(|tail| tail.changes)
+    }
+
+    /// The same members without the tail, once they are checked.
+    pub fn detach(&self) -> Result<OldImage, Refusal> {
+        let mut target = vec![0; self.bytes().len().saturating_sub(TAIL_BYTES)];
+        unpack(packed::detach(self.bytes(), &mut target))?;
+        Ok(OldImage::over(target))
     }
 
     pub fn ask(&self, hash: u64) -> Result<Asked, Refusal> {
@@ -250,7 +337,8 @@ impl<Bytes: AsRef<[u8]>> Image<Bytes> {
 
     /// Every fingerprint, ascending, each as often as it is a member.
     pub fn list(&self) -> Result<Vec<u64>, Refusal> {
-        let fronts = (self.bytes().len().saturating_sub(448) / 576 * 8) as u64;
+        let b = self.bytes().len().saturating_sub(length(0)) / 576;
+        let fronts = 8 * b as u64;
         let mut all = Vec::new();
         let mut out = [0; 1024];
         let mut next = 0;
@@ -286,7 +374,7 @@ impl<Bytes: AsRef<[u8]>> Image<Bytes> {
 }
 
 impl<Bytes: AsRef<[u8]> + AsMut<[u8]>> Image<Bytes> {
-    /// Every bucket empty.
+    /// Every bucket empty, total and change count 0.
     pub fn fresh(&mut self) -> Result<(), Refusal> {
         unpack(packed::fresh(self.bytes.as_mut())).map(|_| ())
     }
@@ -299,7 +387,8 @@ impl<Bytes: AsRef<[u8]> + AsMut<[u8]>> Image<Bytes> {
         unpack(packed::delete(self.bytes.as_mut(), hash)).map(changed)
     }
 
-    /// Writes the members of both sources into this image, whatever it held.
+    /// Writes the members of both sources into this image, whatever it held. The totals are added,
+    /// the change count is 0.
     pub fn merge<First, Second>(
         &mut self,
         first: &Image<First>,

@@ -8,6 +8,7 @@ use crate::Entry;
 unsafe extern "C" {
     fn bcf_fresh(image: *mut u8, length: usize) -> u64;
     fn bcf_check(image: *const u8, length: usize) -> u64;
+    fn bcf_tail(image: *const u8, length: usize, out: *mut u64, out_length: usize) -> u64;
     fn bcf_insert(image: *mut u8, length: usize, hash: u64) -> u64;
     fn bcf_delete(image: *mut u8, length: usize, hash: u64) -> u64;
     fn bcf_ask(image: *const u8, length: usize, hash: u64) -> u64;
@@ -35,6 +36,8 @@ unsafe extern "C" {
         target: *mut u8,
         target_length: usize,
     ) -> u64;
+    fn bcf_attach(old: *const u8, old_length: usize, target: *mut u8, target_length: usize) -> u64;
+    fn bcf_detach(image: *const u8, length: usize, target: *mut u8, target_length: usize) -> u64;
 }
 
 /// Value 0.
@@ -45,6 +48,11 @@ pub fn fresh(image: &mut [u8]) -> u64 {
 /// Value 0.
 pub fn check(image: &[u8]) -> u64 {
     unsafe { bcf_check(image.as_ptr(), image.len()) }
+}
+
+/// Value 0. The output gets the total, then the change count.
+pub fn tail(image: &[u8], out: &mut [u64]) -> u64 {
+    unsafe { bcf_tail(image.as_ptr(), image.len(), out.as_mut_ptr(), out.len()) }
 }
 
 /// Value: 0, or 1 + the backyard bucket that took the overflow.
@@ -107,6 +115,23 @@ pub fn merge(first: &[u8], second: &[u8], target: &mut [u8]) -> u64 {
             first.len(),
             second.as_ptr(),
             second.len(),
+            target.as_mut_ptr(),
+            target.len(),
+        )
+    }
+}
+
+/// Value 0. The source is an old image, the target of the new form.
+pub fn attach(old: &[u8], target: &mut [u8]) -> u64 {
+    unsafe { bcf_attach(old.as_ptr(), old.len(), target.as_mut_ptr(), target.len()) }
+}
+
+/// Value 0. The source is of the new form, the target an old image.
+pub fn detach(image: &[u8], target: &mut [u8]) -> u64 {
+    unsafe {
+        bcf_detach(
+            image.as_ptr(),
+            image.len(),
             target.as_mut_ptr(),
             target.len(),
         )

@@ -1,17 +1,20 @@
--- The code's answers as document 01 gives them: each case of an answer enum as the machine's `Result`, with its number and values;
+-- The code's answers as the documents give them: each case of an answer enum as the machine's `Result`, with its number and values;
 -- and for each call that writes, its answer and the bytes after it.
 use mathlib.Core.Path.{_≡_}
 use Prim.Native.Nat.{ℕ}
 use mathlib.Core.List.{List}
 use lib.ListN.{length}
-use Rattle.crumbmap.specs.Layouts.{Layout}
+use Rattle.crumbmap.specs.Layouts.{known}
 use Rattle.machine.specs.Results.{Result, accepted, refused, andThen}
 use Rattle.machine.specs.Machine as M
 use Rattle.machine.specs.Pages.{Run}
-use Rattle.machine.specs.Calls.{freshOf, insertOf, deleteOf, pageOf, mergeOf, written, imageOf, outputOf, targetOf}
-use Rattle.machine.specs.OccupancyPages.{occupancyOf, printed}
+use Rattle.machine.specs.Calls.{written, imageOf, outputOf}
+use Rattle.machine.specs.OccupancyPages.{printed}
+use Rattle.form.specs.Tails.{Tail}
+use Rattle.form.specs.Calls as F
+use Rattle.form.specs.Moves.{attachOf, detachOf}
 use Rattle.answers.specs.declared.Refusal.{Refusal}
-use Rattle.answers.specs.declared.Refusal.the-variants.{WrongLength, LengthsDiffer, Unsound, Full, Absent, PastEnd, NoRoom, Early, Descending}
+use Rattle.answers.specs.declared.Refusal.the-variants.{WrongLength, LengthsDiffer, Unsound, Full, Absent, PastEnd, NoRoom, Early, Descending, BadTail, Miscounted, Spent}
 use Rattle.answers.specs.declared.Outcome.{Outcome}
 use Rattle.answers.specs.declared.Outcome.the-variants as D
 use Rattle.answers.specs.declared.ChangeResult.{ChangeResult}
@@ -24,6 +27,8 @@ use Rattle.answers.specs.declared.CountResult.{CountResult}
 use Rattle.answers.specs.declared.CountResult.the-variants as T
 use Rattle.answers.specs.declared.PageResult.{PageResult}
 use Rattle.answers.specs.declared.PageResult.the-variants as G
+use Rattle.answers.specs.declared.TailResult.{TailResult}
+use Rattle.answers.specs.declared.TailResult.the-variants as S
 
 -- "the numbers a caller may get": a refusal's number, and its table number or 0
 abbrev pub numbered : Refusal → ℕ × ℕ
@@ -36,11 +41,14 @@ numbered PastEnd = (6, 0)
 numbered NoRoom = (7, 0)
 numbered (Early i) = (8, i)
 numbered Descending = (10, 0)
+numbered BadTail = (11, 0)
+numbered Miscounted = (12, 0)
+numbered Spent = (13, 0)
 
 abbrev pub refusal : {A : Type 0} → Refusal → Result A
 refusal r = refused (numbered r .0) (numbered r .1)
 
--- "fresh, check and merge give 0 when accepted"; an occupancy page too
+-- "fresh, check and merge give 0 when accepted"; an occupancy page and a move too
 abbrev pub outcomeOf : Outcome → Result (Unit {0})
 outcomeOf D.Accepted = accepted tt
 outcomeOf (D.Refused r) = refusal r
@@ -71,22 +79,17 @@ blank r = andThen r λ _. accepted tt
 abbrev pub answerOf : Result M.Change → Result ℕ
 answerOf r = andThen r λ c. accepted (c .answer)
 
--- a fresh on the image `old`, and the image `new` after it
-pub record Freshens (L : Layout) (old : List ℕ) (r : Outcome) (new : List ℕ) : Type 0 where
-  pub answer : outcomeOf r ≡ blank (freshOf L old)
-  pub bytes : new ≡ written (freshOf L old) old
-
 -- a call that is `m` on the machine: its answer, and the image `new` after it
 pub record Changes (m : Result M.Change) (old : List ℕ) (r : ChangeResult) (new : List ℕ) : Type 0 where
   pub answer : changeOf r ≡ answerOf m
   pub bytes : new ≡ imageOf m old
 
 -- an insert of a hash, and a delete of one
-abbrev pub Inserts : Layout → List ℕ → ℕ → ChangeResult → List ℕ → Type 0
-Inserts L old k r new = Changes (insertOf L old k) old r new
+abbrev pub Inserts : List ℕ → ℕ → ChangeResult → List ℕ → Type 0
+Inserts old k r new = Changes (F.insertOf known old k) old r new
 
-abbrev pub Deletes : Layout → List ℕ → ℕ → ChangeResult → List ℕ → Type 0
-Deletes L old k r new = Changes (deleteOf L old k) old r new
+abbrev pub Deletes : List ℕ → ℕ → ChangeResult → List ℕ → Type 0
+Deletes old k r new = Changes (F.deleteOf known old k) old r new
 
 -- a page "gives how many and the next bucket"
 abbrev pub pagedOf : PageResult → Result (ℕ × ℕ)
@@ -103,23 +106,41 @@ pub record Writes (m : Result Run) (old : List ℕ) (r : PageResult) (new : List
   pub bytes : new ≡ outputOf m old
 
 -- a page of an image from bucket s into the output `old`
-abbrev pub Pages : Layout → List ℕ → ℕ → List ℕ → PageResult → List ℕ → Type 0
-Pages L img s old r new = Writes (pageOf L img s (length old)) old r new
+abbrev pub Pages : List ℕ → ℕ → List ℕ → PageResult → List ℕ → Type 0
+Pages img s old r new = Writes (F.pageOf known img s (length old)) old r new
 
--- a call that fills a target with what `m` is on the machine: its answer, and the target `new` after it
-pub record Fills (L : Layout) (m : Result (List ℕ)) (old : List ℕ) (r : Outcome) (new : List ℕ) : Type 0 where
+-- what the tail of an image tells
+abbrev pub tailedOf : TailResult → Result Tail
+tailedOf (S.Accepted t) = accepted (record { total = t .total; changes = t .changes })
+tailedOf (S.Refused r) = refusal r
+
+-- a call that is `m` on the machine and leaves the bytes `left`: its answer, and the bytes `new` after it
+pub record Leaves (m : Result (List ℕ)) (left : List ℕ) (r : Outcome) (new : List ℕ) : Type 0 where
   pub answer : outcomeOf r ≡ blank m
-  pub bytes : new ≡ targetOf L m old
+  pub bytes : new ≡ left
+
+-- one that writes an image over `old`, and one that prints over `old`
+abbrev pub Starts : Result (List ℕ) → List ℕ → Outcome → List ℕ → Type 0
+Starts m old r new = Leaves m (written m old) r new
+
+abbrev pub Prints : Result (List ℕ) → List ℕ → Outcome → List ℕ → Type 0
+Prints m old r new = Leaves m (printed m old) r new
+
+-- a fresh on the image `old`
+abbrev pub Freshens : List ℕ → Outcome → List ℕ → Type 0
+Freshens old r new = Starts (F.freshOf known 1 old) old r new
+
+-- a move of an image into the target `old`, to the new form and to document 01's
+abbrev pub Attaches : List ℕ → List ℕ → Outcome → List ℕ → Type 0
+Attaches img old r new = Starts (attachOf known 1 img old) old r new
+
+abbrev pub Detaches : List ℕ → List ℕ → Outcome → List ℕ → Type 0
+Detaches img old r new = Starts (detachOf known 1 img old) old r new
 
 -- a merge of two images into the target `old`
-abbrev pub Merges : Layout → List ℕ → List ℕ → List ℕ → Outcome → List ℕ → Type 0
-Merges L a b old r new = Fills L (mergeOf L a b old) old r new
-
--- a call that prints what `m` is on the machine: its answer, and the output `new` after it
-pub record Prints (m : Result (List ℕ)) (old : List ℕ) (r : Outcome) (new : List ℕ) : Type 0 where
-  pub answer : outcomeOf r ≡ blank m
-  pub bytes : new ≡ printed m old
+abbrev pub Merges : List ℕ → List ℕ → List ℕ → Outcome → List ℕ → Type 0
+Merges a b old r new = Leaves (F.mergeOf known a b old) (F.targetOf known a (F.mergeOf known a b old) old) r new
 
 -- the occupancy page p of an image into the output `old`
-abbrev pub Occupancies : Layout → List ℕ → ℕ → List ℕ → Outcome → List ℕ → Type 0
-Occupancies L img p old r new = Prints (occupancyOf L img p (length old)) old r new
+abbrev pub Occupancies : List ℕ → ℕ → List ℕ → Outcome → List ℕ → Type 0
+Occupancies img p old r new = Prints (F.occupancyOf known img p (length old)) old r new

@@ -3,10 +3,11 @@ use mathlib.Core.Path.{_≡_}
 use Prim.Native.Nat.{ℕ, _^_}
 use mathlib.Core.List.{List, [], _∷_, map}
 use Rattle.multiset.specs.Multisets.{Below}
-use Rattle.crumbmap.specs.Layouts.{Layout}
+use Rattle.crumbmap.specs.Layouts.{known}
 use Rattle.machine.specs.Results.{Result, accepted, refused, andThen}
 use Rattle.machine.specs.Machine.{Asked, Place, nowhere, front, first, second}
-use Rattle.machine.specs.Rows.{Row, rowOf}
+use Rattle.machine.specs.Rows.{Row}
+use Rattle.form.specs.Calls.{rowOf}
 use Rattle.answers.specs.Answers.{refusal}
 use Rattle.answers.specs.declared.Entry.{Entry}
 use Rattle.answers.specs.declared.RowResult.{RowResult}
@@ -52,7 +53,7 @@ abbrev pub totalOf : Result Row → Result ℕ
 totalOf r = andThen r λ w. accepted (w .total)
 
 -- a row of asks of the entries `old`, which hold hashes of 64 bits: its answer, and the entries `new` after it
-pub record Rows (L : Layout) (img : List ℕ) (old : List Entry) (r : RowResult) (new : List Entry) : Type 0 where
+pub record Rows (img : List ℕ) (old : List Entry) (r : RowResult) (new : List Entry) : Type 0 where
   pub held : Below (2 ^ 64) (hashes old)
-  pub answer : rowedOf r ≡ totalOf (rowOf L img (hashes old))
-  pub entries : new ≡ entriesOf (rowOf L img (hashes old)) old
+  pub answer : rowedOf r ≡ totalOf (rowOf known img (hashes old))
+  pub entries : new ≡ entriesOf (rowOf known img (hashes old)) old

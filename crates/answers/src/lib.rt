@@ -3,8 +3,8 @@
 
 pub mod pairs;
 
-// "The numbers a caller may get": 1 to 8 in this order, then 10, a row whose front buckets descend. An unsound bucket and one with a member
-// before its turn have a table number.
+// "The numbers a caller may get": 1 to 8 in this order; then 10, a row whose front buckets descend; 11, a bad tail; 12, a total that differs from
+// the members or would leave its range; 13, a change count at its top. An unsound bucket and one with a member before its turn have a table number.
 pub enum Refusal {
     WrongLength,
     LengthsDiffer,
@@ -15,9 +15,12 @@ pub enum Refusal {
     NoRoom,
     Early(usize),
     Descending,
+    BadTail,
+    Miscounted,
+    Spent,
 }
 
-// What a fresh, a check, a merge or an occupancy page gives.
+// What a fresh, a check, a merge, a move or an occupancy page gives.
 pub enum Outcome {
     Accepted,
     Refused(Refusal),
@@ -65,6 +68,18 @@ pub enum CountResult {
 // What a page gives: how many, and "the next bucket".
 pub enum PageResult {
     Accepted(usize, usize),
+    Refused(Refusal),
+}
+
+// What a tail tells: "the total" and "a change count".
+pub struct Tail {
+    pub total: u64,
+    pub changes: u64,
+}
+
+// What the tail of an image is told as.
+pub enum TailResult {
+    Accepted(Tail),
     Refused(Refusal),
 }
 

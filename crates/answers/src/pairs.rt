@@ -53,6 +53,18 @@ pub fn refused(why: Refusal) -> Said
             number: 10,
             value: 0,
         },
+        Refusal::BadTail => Said {
+            number: 11,
+            value: 0,
+        },
+        Refusal::Miscounted => Said {
+            number: 12,
+            value: 0,
+        },
+        Refusal::Spent => Said {
+            number: 13,
+            value: 0,
+        },
     }
 }
 

@@ -1,18 +1,18 @@
--- The value of each call on an image is below 2^56: answers and table numbers are small, and members are few.
--- Main results: fresh-fits, check-fits, insert-fits, delete-fits, ask-fits, count-fits, page-fits, occupancy-fits,
--- merge-fits, row-fits.
+-- The value of each call on an image is below 2^56: answers and table numbers are small, and members are few. First the calls on a body.
+-- Main results: fresh-fits, check-fits, tail-fits, insert-fits, delete-fits, ask-fits, row-fits, count-fits, page-fits, occupancy-fits,
+-- merge-fits, attach-fits, detach-fits.
 use mathlib.Core.Path.{_≡_, refl, sym}
 use Prim.Native.Nat.{ℕ, zero, suc, _+_, _*_, _-_, _^_, _≤_, _<_}
 use mathlib.Core.Bool.{Bool, true, false, cond, _&&_}
-use mathlib.Core.List.{List, [], _∷_}
+use mathlib.Core.List.{List, [], _∷_, map}
 use mathlib.Core.Option.{Option, none, some}
 use native.Mathlib.Omega.{arith}
-use lib.ListN.{length}
+use lib.ListN.{length, drop}
 use lib.Dec.{leb, ltb, eqb}
 use borrow.Author.Tests.{ltb-true, ltb-false}
-use Rattle.multiset.specs.Multisets.{Below, copies, Found, foundIn, largest, added, removed}
+use Rattle.multiset.specs.Multisets.{Below, copies, allZero, Found, foundIn, largest, added, removed}
 use Rattle.multiset.proofs.MultisetLaws.{copies-le-length}
-use Rattle.crumbmap.specs.Layouts.{layout1, fronts, backyards}
+use Rattle.crumbmap.specs.Layouts.{layout1, known, fronts, backyards}
 use Rattle.crumbmap.specs.Fingerprints.{frontOf, keyOf}
 use Rattle.crumbmap.specs.CrumbMap.{firstBucket, secondBucket, firstCrumb, secondCrumb, bucketOf, crumbOf}
 use Rattle.crumbmap.proofs.CrumbMapLaws.{bucketOf-lt}
@@ -21,20 +21,26 @@ use Rattle.buckets.specs.Buckets.{carrying, frontMembers, backMembers}
 use Rattle.machine.specs.Results.{Result, accepted, refused, andThen, orUnsound, orRefused}
 use Rattle.machine.specs.Images.{sized, sizeOf, frontAt, backAt, putBack, bucketAt}
 use Rattle.machine.specs.Bags.{has, fromFirst}
-use Rattle.machine.specs.Machine.{Place, front, first, second, Asked, changed, asked, counted, backyard, overflow, taker, takeIn, insertAt, takeOut, refill, deleteAt, askAt, countAt, membersAt}
+use Rattle.machine.specs.Machine.{Change, Place, front, first, second, Asked, changed, asked, counted, backyard, overflow, taker, takeIn, insertAt, takeOut, refill, deleteAt, askAt, countAt, membersAt}
 use Rattle.machine.specs.Pages.{Run, runFrom, pageFrom}
 use Rattle.machine.specs.Checks.{orLater, unsoundFront, unsoundBack, bucketInTurn, early, checkSized}
-use Rattle.machine.specs.Merges.{insertAll, mergeFrom, mergeSized}
-use Rattle.machine.specs.Calls.{freshOf, insertOf, deleteOf, askOf, countOf, pageOf, checkOf, mergeOf}
+use Rattle.machine.specs.Merges.{insertAll, mergeFrom}
+use Rattle.machine.specs.Calls as M
+use Rattle.machine.specs.Rows as R
+use Rattle.machine.specs.Rows.{Row, descends}
+use Rattle.machine.specs.OccupancyPages as O
+use Rattle.machine.specs.OccupancyPages.{pageLines, pageBytes, blankLine, lineAt, linesFrom, printFrom}
 use Rattle.machine.proofs.ImageLaws.{sizeOf-some}
-use Rattle.answers.specs.Pairs.{answerValue}
-use Rattle.machine.specs.Rows.{Row, rowOf}
-use Rattle.machine.specs.OccupancyPages.{pageLines, pageBytes, blankLine, lineAt, linesFrom, printFrom, occupancyOf}
 use Rattle.machine.proofs.OccupancyLaws.{line-members}
 use Rattle.machine.proofs.RowLaws.{of-search, row-total, row-refused}
 use Rattle.machine.proofs.RoomLaws.{frontAt-room, backAt-room, backyard-room, run-count, found-room}
+use Rattle.form.specs.Tails.{Tail, Header, body, rest, tailIn, markOf, slots, members, raised, lowered, headerBy, headed, opened, top}
+use Rattle.form.specs.Calls.{changedBy, checkedBy, mergedBy, freshOf, insertOf, deleteOf, askOf, countOf, rowOf, pageOf, occupancyOf, checkOf, tailOf, mergeSizedOf, mergeOf}
+use Rattle.form.specs.Moves.{attachOf, detachOf}
+use Rattle.answers.specs.Pairs.{answerValue}
 use Rattle.capi.specs.Packing.{Within, taken, barred, nothing, placeWord, askWord, countWord, runWord, rowWord}
-use Rattle.capi.proofs.ResultLaws.{within-then, within-cond, within-unless}
+use Rattle.capi.specs.Totals.{tailInto}
+use Rattle.capi.proofs.ResultLaws.{within-accepted, within-then, within-cond, within-unless}
 
 abbrev cap : ℕ
 cap = 2 ^ 56
@@ -186,21 +192,21 @@ front-fits : {A : Type 0} {v : A → ℕ} (img : List ℕ) (hash : ℕ) (k : ℕ
     → Within v cap (andThen (sized img) λ B. k B (frontOf B hash) (keyOf layout1 hash))
 front-fits img hash k h g = sized-fits img _ (λ B p l. g B (frontOf B hash) l (frontOf-lt B hash p h) (keyOf layout1 hash))
 
-pub insert-fits : (img : List ℕ) (hash : ℕ) → hash < 2 ^ 64 → Within answerValue cap (insertOf layout1 img hash)
-unfolding insertOf
-insert-fits img hash h = front-fits img hash (λ B f x. insertAt layout1 B f x img) h (λ B f l k x. insertAt-fits B f img l k x)
+insert-body : (b : List ℕ) (hash : ℕ) → hash < 2 ^ 64 → Within answerValue cap (M.insertOf layout1 b hash)
+unfolding M.insertOf
+insert-body b hash h = front-fits b hash (λ B f x. insertAt layout1 B f x b) h (λ B f l k x. insertAt-fits B f b l k x)
 
-pub delete-fits : (img : List ℕ) (hash : ℕ) → hash < 2 ^ 64 → Within answerValue cap (deleteOf layout1 img hash)
-unfolding deleteOf
-delete-fits img hash h = front-fits img hash (λ B f x. deleteAt layout1 B f x img) h (λ B f l k x. deleteAt-fits B f img l k x)
+delete-body : (b : List ℕ) (hash : ℕ) → hash < 2 ^ 64 → Within answerValue cap (M.deleteOf layout1 b hash)
+unfolding M.deleteOf
+delete-body b hash h = front-fits b hash (λ B f x. deleteAt layout1 B f x b) h (λ B f l k x. deleteAt-fits B f b l k x)
 
-pub ask-fits : (img : List ℕ) (hash : ℕ) → hash < 2 ^ 64 → Within askWord cap (askOf layout1 img hash)
-unfolding askOf
-ask-fits img hash h = front-fits img hash (λ B f x. askAt layout1 B f x img) h (λ B f l k x. askAt-fits B f img l k x)
+ask-body : (b : List ℕ) (hash : ℕ) → hash < 2 ^ 64 → Within askWord cap (M.askOf layout1 b hash)
+unfolding M.askOf
+ask-body b hash h = front-fits b hash (λ B f x. askAt layout1 B f x b) h (λ B f l k x. askAt-fits B f b l k x)
 
-pub count-fits : (img : List ℕ) (hash : ℕ) → hash < 2 ^ 64 → Within countWord cap (countOf layout1 img hash)
-unfolding countOf
-count-fits img hash h = front-fits img hash (λ B f x. countAt layout1 B f x img) h (λ B f l k x. countAt-fits B f img l k x)
+count-body : (b : List ℕ) (hash : ℕ) → hash < 2 ^ 64 → Within countWord cap (M.countOf layout1 b hash)
+unfolding M.countOf
+count-body b hash h = front-fits b hash (λ B f x. countAt layout1 B f x b) h (λ B f l k x. countAt-fits B f b l k x)
 
 -- ---- pages
 
@@ -214,9 +220,9 @@ run-sound B (suc n) s room img l h =
     (λ r g. pass _))
     (λ _. pass _))
 
-pub page-fits : (img : List ℕ) (start room : ℕ) → Within runWord cap (pageOf layout1 img start room)
-unfolding pageOf pageFrom fronts
-page-fits img s room =
+page-body : (img : List ℕ) (start room : ℕ) → Within runWord cap (M.pageOf layout1 img start room)
+unfolding M.pageOf pageFrom fronts
+page-body img s room =
     sized-fits img _ (λ B p l.
     within-cond (ltb (8 * B) s) _ _ (λ _. bar 6 0 (omega arith) (omega arith)) (λ e.
     let k : s ≤ 8 * B = ltb-false (8 * B) s e in
@@ -237,15 +243,15 @@ lines-sound B (suc n) f img l =
     (λ _. pass _))
     (λ t e. within-then (linesFrom layout1 B n (suc f) img) _ (lines-sound B n (suc f) img l) (λ ts g. pass _))
 
-pub occupancy-fits : (img : List ℕ) (p room : ℕ) → Within nothing cap (occupancyOf layout1 img p room)
-unfolding occupancyOf printFrom
-occupancy-fits img p room =
+occupancy-body : (img : List ℕ) (p room : ℕ) → Within nothing cap (O.occupancyOf layout1 img p room)
+unfolding O.occupancyOf printFrom
+occupancy-body img p room =
     sized-fits img _ (λ B q l.
     within-cond (leb (fronts B) (pageLines * p)) _ _ (λ _. bar 6 0 (omega arith) (omega arith)) (λ _.
     within-then (linesFrom layout1 B pageLines (pageLines * p) img) _ (lines-sound B pageLines (pageLines * p) img l) (λ text e.
     within-cond (ltb room (pageBytes layout1)) _ _ (λ _. bar 7 0 (omega arith) (omega arith)) (λ _. pass text))))
 
--- ---- check, fresh, merge
+-- ---- check, merge
 
 orLater-lt : (n i : ℕ) (r : Result (List ℕ)) (o : Option ℕ) → Within nothing n r → ((j : ℕ) → o ≡ some j → j < n) → orLater r o ≡ some i → i < n
 orLater-lt n i (accepted xs) o w g e = g i e
@@ -284,14 +290,6 @@ checkSized-fits B img p l =
     (within-unless _ _ (omega arith) (λ i. unsoundBack-lt B (backyards B) 0 img i p l (omega arith))
     (within-unless _ _ (omega arith) (λ i. early-lt B (backyards B) 0 img i l (omega arith)) (pass tt)))
 
-pub check-fits : (img : List ℕ) → Within nothing cap (checkOf layout1 img)
-unfolding checkOf
-check-fits img = sized-fits img _ (λ B p l. checkSized-fits B img p l)
-
-pub fresh-fits : (img : List ℕ) → Within nothing cap (freshOf layout1 img)
-unfolding freshOf
-fresh-fits img = sized-fits img _ (λ B p l. pass _)
-
 insertAll-fits : (B f : ℕ) (xs img : List ℕ) → B ≤ 65536 → f < fronts B → Within nothing cap (insertAll layout1 B f xs img)
 unfolding insertAll
 insertAll-fits B f [] img l h = pass img
@@ -308,25 +306,159 @@ mergeFrom-fits B (suc n) f a b img l h =
     within-then (insertAll layout1 B f xs img) _ (insertAll-fits B f xs img l k) (λ i g.
     within-then (insertAll layout1 B f ys i) _ (insertAll-fits B f ys i l k) (λ j m. mergeFrom-fits B n (suc f) a b j l (omega arith)))))
 
-pub merge-fits : (a b target : List ℕ) → Within nothing cap (mergeOf layout1 a b target)
-unfolding mergeOf mergeSized
-merge-fits a b target =
-    sized-fits a _ (λ B p l.
-    sized-fits b _ (λ C q m.
-    sized-fits target _ (λ D r n.
-    within-cond (eqb B C && eqb B D) _ _ (λ _.
-    within-then (checkSized layout1 B a) _ (checkSized-fits B a p l) (λ _ d.
-    within-then (checkSized layout1 B b) _ (checkSized-fits B b p l) (λ _ e. mergeFrom-fits B (fronts B) 0 a b _ l (omega arith))))
-    (λ _. bar 2 0 (omega arith) (omega arith)))))
-
 -- ---- a row
 
-pub row-fits : (img ks : List ℕ) → Below (2 ^ 64) ks → Within rowWord cap (rowOf layout1 img ks)
+row-body : (b ks : List ℕ) → Below (2 ^ 64) ks → Within rowWord cap (R.rowOf layout1 b ks)
 unfolding fronts
-row-fits img ks small = go (rowOf layout1 img ks) refl
+row-body b ks small = go (R.rowOf layout1 b ks) refl
   where
-    go : (r : Result Row) → rowOf layout1 img ks ≡ r → Within rowWord cap r
+    go : (r : Result Row) → R.rowOf layout1 b ks ≡ r → Within rowWord cap r
     go (accepted w) e =
-        let t = row-total layout1 img ks small e in
-        taken {a = w} (omega (arith, t .2, sizeOf-some (length img) (t .0) (t .1)))
-    go (refused n i) e = let z = row-refused layout1 img ks small e in bar n i (omega arith) (omega arith)
+        let t = row-total layout1 b ks small e in
+        taken {a = w} (omega (arith, t .2, sizeOf-some (length b) (t .0) (t .1)))
+    go (refused n i) e = let z = row-refused layout1 b ks small e in bar n i (omega arith) (omega arith)
+
+-- ---- an image opened
+
+-- the header of an image of size B
+abbrev header : ℕ → List ℕ → Header
+header B img = record { size = B; number = markOf img; layout = layout1; tail = tailIn (rest img) }
+
+-- its tail, then what goes on with the header
+headed-fits : {A : Type 0} {v : A → ℕ} (B : ℕ) (img : List ℕ) (k : Header → Result A) → Within v cap (k (header B img))
+    → Within v cap (andThen (headed known B img) k)
+unfolding headed
+headed-fits {A} {v} B img k g = go (eqb (markOf img) 1)
+  where
+    tested : (b : Bool) → Within v cap (andThen (cond b (accepted (header B img)) (refused 11 0)) k)
+    tested true = g
+    tested false = bar 11 0 (omega arith) (omega arith)
+
+    go : (b : Bool) → Within v cap (andThen (headerBy (cond b (some layout1) none) B img) k)
+    go true = tested (allZero (drop 17 (rest img)) && leb (tailIn (rest img) .total) (slots layout1 B))
+    go false = bar 11 0 (omega arith) (omega arith)
+
+-- an image of any length
+opened-fits : {A : Type 0} {v : A → ℕ} (img : List ℕ) (k : Header → Result A) → ((B : ℕ) → 0 < B → B ≤ 65536 → Within v cap (k (header B img)))
+    → Within v cap (andThen (opened known img) k)
+unfolding opened
+opened-fits {A} {v} img k g = go (sizeOf (length (body img))) refl
+  where
+    go : (o : Option ℕ) → sizeOf (length (body img)) ≡ o → Within v cap (andThen (andThen (orRefused 1 o) λ B. headed known B img) k)
+    go none e = bar 1 0 (omega arith) (omega arith)
+    go (some B) e = let s = sizeOf-some (length (body img)) B e in headed-fits B img k (g B (s .1) (s .2))
+
+-- a change of the body and of the tail
+changedBy-fits : (h : Header) (m : Result Change) (u : Result Tail) → Within answerValue cap m → Within nothing cap u
+    → Within answerValue cap (changedBy h m u)
+unfolding changedBy
+changedBy-fits h m u f g =
+    within-cond (eqb (h .tail .changes) top) _ _ (λ _. bar 13 0 (omega arith) (omega arith)) (λ _.
+    within-then m _ f (λ c d.
+    within-then u _ g (λ t e. changed-fits (c .answer) _ (within-accepted (rw d at f)))))
+
+raised-fits : (B : ℕ) (t : Tail) → Within nothing cap (raised layout1 B t)
+unfolding raised
+raised-fits B t = within-cond (ltb (t .total) (slots layout1 B)) _ _ (λ _. pass _) (λ _. bar 12 0 (omega arith) (omega arith))
+
+lowered-fits : (t : Tail) → Within nothing cap (lowered layout1 t)
+unfolding lowered
+lowered-fits t = within-cond (eqb (t .total) 0) _ _ (λ _. bar 12 0 (omega arith) (omega arith)) (λ _. pass _)
+
+-- the body checked, and the total
+checkedBy-fits : (B : ℕ) (img b : List ℕ) → 0 < B → B ≤ 65536 → Within nothing cap (checkedBy (header B img) b)
+unfolding checkedBy
+checkedBy-fits B img b p l =
+    within-then (checkSized layout1 B b) _ (checkSized-fits B b p l) (λ _ e.
+    within-cond (eqb (tailIn (rest img) .total) (members layout1 B b)) _ _ (λ _. pass tt) (λ _. bar 12 0 (omega arith) (omega arith)))
+
+-- ---- the calls
+
+pub fresh-fits : (img : List ℕ) → Within nothing cap (freshOf known 1 img)
+unfolding freshOf
+fresh-fits img = sized-fits (body img) _ (λ B p l. pass _)
+
+pub check-fits : (img : List ℕ) → Within nothing cap (checkOf known img)
+unfolding checkOf
+check-fits img = opened-fits img _ (λ B p l. checkedBy-fits B img (body img) p l)
+
+tail-sound : (img : List ℕ) → Within nothing cap (tailOf known img)
+unfolding tailOf
+tail-sound img = opened-fits img _ (λ B p l. pass _)
+
+pub tail-fits : (img : List ℕ) (room : ℕ) → Within nothing cap (tailInto known img room)
+tail-fits img room =
+    within-then (tailOf known img) _ (tail-sound img) (λ t e.
+    within-cond (ltb room 2) _ _ (λ _. bar 7 0 (omega arith) (omega arith)) (λ _. pass _))
+
+pub insert-fits : (img : List ℕ) (hash : ℕ) → hash < 2 ^ 64 → Within answerValue cap (insertOf known img hash)
+unfolding insertOf
+insert-fits img hash h =
+    opened-fits img _ (λ B p l. changedBy-fits (header B img) _ _ (insert-body (body img) hash h) (raised-fits B (tailIn (rest img))))
+
+pub delete-fits : (img : List ℕ) (hash : ℕ) → hash < 2 ^ 64 → Within answerValue cap (deleteOf known img hash)
+unfolding deleteOf
+delete-fits img hash h =
+    opened-fits img _ (λ B p l. changedBy-fits (header B img) _ _ (delete-body (body img) hash h) (lowered-fits (tailIn (rest img))))
+
+pub ask-fits : (img : List ℕ) (hash : ℕ) → hash < 2 ^ 64 → Within askWord cap (askOf known img hash)
+unfolding askOf
+ask-fits img hash h = opened-fits img _ (λ B p l. ask-body (body img) hash h)
+
+pub count-fits : (img : List ℕ) (hash : ℕ) → hash < 2 ^ 64 → Within countWord cap (countOf known img hash)
+unfolding countOf
+count-fits img hash h = opened-fits img _ (λ B p l. count-body (body img) hash h)
+
+pub row-fits : (img ks : List ℕ) → Below (2 ^ 64) ks → Within rowWord cap (rowOf known img ks)
+unfolding rowOf
+row-fits img ks small =
+    sized-fits (body img) _ (λ B p l.
+    within-cond (descends 0 (map (frontOf B) ks)) _ _ (λ _. bar 10 0 (omega arith) (omega arith)) (λ _.
+    headed-fits B img _ (row-body (body img) ks small)))
+
+pub page-fits : (img : List ℕ) (start room : ℕ) → Within runWord cap (pageOf known img start room)
+unfolding pageOf
+page-fits img s room = opened-fits img _ (λ B p l. page-body (body img) s room)
+
+pub occupancy-fits : (img : List ℕ) (p room : ℕ) → Within nothing cap (occupancyOf known img p room)
+unfolding occupancyOf
+occupancy-fits img p room = opened-fits img _ (λ B q l. occupancy-body (body img) p room)
+
+pub merge-fits : (a b target : List ℕ) → Within nothing cap (mergeOf known a b target)
+unfolding mergeOf mergeSizedOf mergedBy
+merge-fits a b target =
+    sized-fits (body a) _ (λ B p l.
+    sized-fits (body b) _ (λ C q m.
+    sized-fits (body target) _ (λ D r n.
+    within-cond (eqb B C && eqb B D) _ _ (λ _.
+    headed-fits B a _
+    (headed-fits B b _
+    (within-cond (eqb (markOf a) (markOf b)) _ _ (λ _.
+    within-then (checkedBy (header B a) (body a)) _ (checkedBy-fits B a (body a) p l) (λ _ d.
+    within-then (checkedBy (header B b) (body b)) _ (checkedBy-fits B b (body b) p l) (λ _ e.
+    within-then (mergeFrom layout1 B (fronts B) 0 (body a) (body b) _) _ (mergeFrom-fits B (fronts B) 0 (body a) (body b) _ l (omega arith))
+    (λ c g. pass _))))
+    (λ _. bar 2 0 (omega arith) (omega arith)))))
+    (λ _. bar 2 0 (omega arith) (omega arith)))))
+
+-- ---- the moves
+
+pub attach-fits : (old target : List ℕ) → Within nothing cap (attachOf known 1 old target)
+unfolding attachOf
+attach-fits old target =
+    sized-fits old _ (λ B p l.
+    sized-fits (body target) _ (λ C q m.
+    within-cond (eqb B C) _ _ (λ _. within-then (checkSized layout1 B old) _ (checkSized-fits B old p l) (λ _ e. pass _))
+    (λ _. bar 2 0 (omega arith) (omega arith))))
+
+pub detach-fits : (img target : List ℕ) → Within nothing cap (detachOf known 1 img target)
+unfolding detachOf
+detach-fits img target =
+    sized-fits (body img) _ (λ B p l.
+    sized-fits target _ (λ C q m.
+    within-cond (eqb B C) _ _ (λ _.
+    headed-fits B img _
+    (within-cond (eqb (markOf img) 1) _ _
+    (λ _. within-then (checkedBy (header B img) (body img)) _ (checkedBy-fits B img (body img) p l) (λ _ e. pass _))
+    (λ _. bar 11 0 (omega arith) (omega arith))))
+    (λ _. bar 2 0 (omega arith) (omega arith))))

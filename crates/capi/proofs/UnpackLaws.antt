@@ -8,17 +8,21 @@ use native.Mathlib.Omega.{arith}
 use lib.ListN.{length}
 use lib.Dec.{eqb, ltb}
 use Rattle.multiset.specs.Multisets.{foundIn, largest}
-use Rattle.crumbmap.specs.Layouts.{layout1, fronts}
+use Rattle.crumbmap.specs.Layouts.{layout1, known, fronts}
 use Rattle.crumbmap.specs.Fingerprints.{frontOf, keyOf}
 use Rattle.crumbmap.specs.CrumbMap.{firstBucket, secondBucket, firstCrumb, secondCrumb}
 use Rattle.buckets.specs.Buckets.{frontMembers, backMembers}
 use Rattle.machine.specs.Results.{Result, accepted, refused, andThen, orRefused}
 use Rattle.machine.specs.Images.{sizeOf, bucketAt, frontAt, backAt}
 use Rattle.machine.specs.Machine.{Place, nowhere, front, first, second, Asked, askAt}
-use Rattle.machine.specs.Calls.{askOf}
+use Rattle.machine.specs.Calls as M
+use Rattle.machine.proofs.AcceptedLaws.{andThen-accepted}
 use Rattle.machine.proofs.RoomLaws.{frontAt-room, backAt-room, found-room}
 use Rattle.machine.proofs.RowLaws.{of-read, of-search, of-test}
+use Rattle.form.specs.Tails.{body, opened}
+use Rattle.form.specs.Calls.{askOf}
 use Rattle.answers.specs.Rows.{placeNumber, slotNumber}
+use Rattle.rows.proofs.FormRowLaws.{only-known}
 use Rattle.capi.specs.Packing.{placeWord, askWord, Unpacks}
 
 -- an accepted ask's reads and slot are small
@@ -60,14 +64,18 @@ unpacked a s =
       copies = omega (arith, s .0, s .1, p .0, p .1);
     }
 
-ask-small : (img : List ℕ) (hash : ℕ) → Small (askOf layout1 img hash)
-unfolding askOf
-ask-small img hash = go (sizeOf (length img))
+ask-small : (b : List ℕ) (hash : ℕ) → Small (M.askOf layout1 b hash)
+unfolding M.askOf
+ask-small b hash = go (sizeOf (length b))
   where
-    go : (o : Option ℕ) → Small (andThen (orRefused 1 o) λ B. askAt layout1 B (frontOf B hash) (keyOf layout1 hash) img)
+    go : (o : Option ℕ) → Small (andThen (orRefused 1 o) λ B. askAt layout1 B (frontOf B hash) (keyOf layout1 hash) b)
     go none = tt
-    go (some B) = askAt-small B (frontOf B hash) (keyOf layout1 hash) img
+    go (some B) = askAt-small B (frontOf B hash) (keyOf layout1 hash) b
 
 -- whoever takes an accepted ask's value apart has its reads, place, slot and copies
-pub ask-unpacks : (img : List ℕ) (hash : ℕ) (a : Asked) → askOf layout1 img hash ≡ accepted a → Unpacks (askWord a) a
-ask-unpacks img hash a e = unpacked a (rw e at (ask-small img hash))
+pub ask-unpacks : (img : List ℕ) (hash : ℕ) (a : Asked) → askOf known img hash ≡ accepted a → Unpacks (askWord a) a
+unfolding askOf
+ask-unpacks img hash a e =
+    let p = andThen-accepted (opened known img) _ a e in
+    let q : M.askOf layout1 (body img) hash ≡ accepted a = rw (only-known img (p .0) (p .1)) at (p .2) in
+    unpacked a (rw q at (ask-small (body img) hash))

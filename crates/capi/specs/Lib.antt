@@ -1,2 +1,3 @@
--- What the C boundary gives: an answer packed into one number.
+-- What the C boundary gives: an answer packed into one number, and a tail's numbers in an output.
 pub mod Packing
+pub mod Totals

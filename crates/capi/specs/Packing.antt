@@ -28,7 +28,7 @@ pub record Packs (s : Said) : Type 0 where
 
 -- ---- values
 
--- fresh, check, merge and an occupancy page: 0
+-- fresh, check, merge, a move, a tail and an occupancy page: 0
 abbrev pub nothing : {A : Type 0} → A → ℕ
 nothing a = 0
 

@@ -8,49 +8,64 @@ use crate::pack::done;
 use crate::pack::packed;
 use crate::pack::paged;
 use crate::pack::rowed;
+use crate::pack::tailed;
 use answers::Entry;
 use answers::pairs::changed;
 use breadcrumb::ask;
+use breadcrumb::attach;
 use breadcrumb::check;
 use breadcrumb::count;
 use breadcrumb::delete;
+use breadcrumb::detach;
 use breadcrumb::fresh;
 use breadcrumb::insert;
 use breadcrumb::merge;
 use breadcrumb::occupancy;
 use breadcrumb::page;
+use breadcrumb::tail;
 ghost use mathlib.Core.Path.{_≡_};
 ghost use lib.ListN.{length};
-ghost use Rattle.crumbmap.specs.Layouts.{layout1};
-ghost use Rattle.machine.specs.Calls.{freshOf, insertOf, deleteOf, askOf, countOf, pageOf, checkOf, mergeOf, written, imageOf, outputOf, targetOf};
-ghost use Rattle.machine.specs.Rows.{rowOf};
-ghost use Rattle.machine.specs.OccupancyPages.{occupancyOf, printed};
+ghost use Rattle.crumbmap.specs.Layouts.{known};
+ghost use Rattle.machine.specs.Calls.{written, imageOf, outputOf};
+ghost use Rattle.machine.specs.OccupancyPages.{printed};
+ghost use Rattle.form.specs.Calls.{freshOf, insertOf, deleteOf, askOf, countOf, rowOf, pageOf, occupancyOf, checkOf, mergeOf, targetOf};
+ghost use Rattle.form.specs.Moves.{attachOf, detachOf};
 ghost use Rattle.answers.specs.Pairs.{answerValue};
 ghost use Rattle.answers.specs.Rows.{hashes, entriesOf};
 ghost use Rattle.capi.specs.Packing as P;
+ghost use Rattle.capi.specs.Totals.{tailInto};
 
 // The image becomes fresh.
 #[no_mangle]
 pub extern "C" fn bcf_fresh(image: &mut [u8]) -> u64
-    ensures { λ r. ⌜ r ≡ P.packed P.nothing (freshOf layout1 (now (image .entry))) ⌝ }
-    ensures { λ r. ⌜ now (image .exit) ≡ written (freshOf layout1 (now (image .entry))) (now (image .entry)) ⌝ }
+    ensures { λ r. ⌜ r ≡ P.packed P.nothing (freshOf known 1 (now (image .entry))) ⌝ }
+    ensures { λ r. ⌜ now (image .exit) ≡ written (freshOf known 1 (now (image .entry))) (now (image .entry)) ⌝ }
 {
     packed(done(fresh(image)))
 }
 
-// Whether the image is sound and each backyard member in its turn.
+// Whether the image is sound, each backyard member in its turn and the total that of the members.
 #[no_mangle]
 pub extern "C" fn bcf_check(image: &[u8]) -> u64
-    ensures { λ r. ⌜ r ≡ P.packed P.nothing (checkOf layout1 (now (image .entry))) ⌝ }
+    ensures { λ r. ⌜ r ≡ P.packed P.nothing (checkOf known (now (image .entry))) ⌝ }
 {
     packed(done(check(image)))
+}
+
+// The total and the change count, into the first two entries of `out`.
+#[no_mangle]
+pub extern "C" fn bcf_tail(image: &[u8], out: &mut [u64]) -> u64
+    ensures { λ r. ⌜ r ≡ P.packed P.nothing (tailInto known (now (image .entry)) (length (now (out .entry)))) ⌝ }
+    ensures { λ r. ⌜ now (out .exit) ≡ printed (tailInto known (now (image .entry)) (length (now (out .entry)))) (now (out .entry)) ⌝ }
+{
+    packed(tailed(tail(image), out))
 }
 
 // A hash is inserted.
 #[no_mangle]
 pub extern "C" fn bcf_insert(image: &mut [u8], hash: u64) -> u64
-    ensures { λ r. ⌜ r ≡ P.packed answerValue (insertOf layout1 (now (image .entry)) hash) ⌝ }
-    ensures { λ r. ⌜ now (image .exit) ≡ imageOf (insertOf layout1 (now (image .entry)) hash) (now (image .entry)) ⌝ }
+    ensures { λ r. ⌜ r ≡ P.packed answerValue (insertOf known (now (image .entry)) hash) ⌝ }
+    ensures { λ r. ⌜ now (image .exit) ≡ imageOf (insertOf known (now (image .entry)) hash) (now (image .entry)) ⌝ }
 {
     packed(changed(insert(image, hash)))
 }
@@ -58,8 +73,8 @@ pub extern "C" fn bcf_insert(image: &mut [u8], hash: u64) -> u64
 // A hash is deleted.
 #[no_mangle]
 pub extern "C" fn bcf_delete(image: &mut [u8], hash: u64) -> u64
-    ensures { λ r. ⌜ r ≡ P.packed answerValue (deleteOf layout1 (now (image .entry)) hash) ⌝ }
-    ensures { λ r. ⌜ now (image .exit) ≡ imageOf (deleteOf layout1 (now (image .entry)) hash) (now (image .entry)) ⌝ }
+    ensures { λ r. ⌜ r ≡ P.packed answerValue (deleteOf known (now (image .entry)) hash) ⌝ }
+    ensures { λ r. ⌜ now (image .exit) ≡ imageOf (deleteOf known (now (image .entry)) hash) (now (image .entry)) ⌝ }
 {
     packed(changed(delete(image, hash)))
 }
@@ -67,7 +82,7 @@ pub extern "C" fn bcf_delete(image: &mut [u8], hash: u64) -> u64
 // Where a hash stands and how often there, and how many buckets were read to tell.
 #[no_mangle]
 pub extern "C" fn bcf_ask(image: &[u8], hash: u64) -> u64
-    ensures { λ r. ⌜ r ≡ P.packed P.askWord (askOf layout1 (now (image .entry)) hash) ⌝ }
+    ensures { λ r. ⌜ r ≡ P.packed P.askWord (askOf known (now (image .entry)) hash) ⌝ }
 {
     packed(asked(ask(image, hash)))
 }
@@ -75,8 +90,8 @@ pub extern "C" fn bcf_ask(image: &[u8], hash: u64) -> u64
 // A row of asks: each entry receives its answer, and the total of the reads that they share comes back.
 #[no_mangle]
 pub extern "C" fn bcf_row(image: &[u8], row: &mut [Entry]) -> u64
-    ensures { λ r. ⌜ r ≡ P.packed P.rowWord (rowOf layout1 (now (image .entry)) (hashes (now (row .entry)))) ⌝ }
-    ensures { λ r. ⌜ now (row .exit) ≡ entriesOf (rowOf layout1 (now (image .entry)) (hashes (now (row .entry)))) (now (row .entry)) ⌝ }
+    ensures { λ r. ⌜ r ≡ P.packed P.rowWord (rowOf known (now (image .entry)) (hashes (now (row .entry)))) ⌝ }
+    ensures { λ r. ⌜ now (row .exit) ≡ entriesOf (rowOf known (now (image .entry)) (hashes (now (row .entry)))) (now (row .entry)) ⌝ }
 {
     packed(rowed(breadcrumb::row(image, row)))
 }
@@ -84,7 +99,7 @@ pub extern "C" fn bcf_row(image: &[u8], row: &mut [Entry]) -> u64
 // How many copies of a hash there are.
 #[no_mangle]
 pub extern "C" fn bcf_count(image: &[u8], hash: u64) -> u64
-    ensures { λ r. ⌜ r ≡ P.packed P.countWord (countOf layout1 (now (image .entry)) hash) ⌝ }
+    ensures { λ r. ⌜ r ≡ P.packed P.countWord (countOf known (now (image .entry)) hash) ⌝ }
 {
     packed(counted(count(image, hash)))
 }
@@ -92,8 +107,8 @@ pub extern "C" fn bcf_count(image: &[u8], hash: u64) -> u64
 // The members of the longest run of whole buckets from `start` that fits into `out`.
 #[no_mangle]
 pub extern "C" fn bcf_page(image: &[u8], start: u64, out: &mut [u64]) -> u64
-    ensures { λ r. ⌜ r ≡ P.packed P.runWord (pageOf layout1 (now (image .entry)) start (length (now (out .entry)))) ⌝ }
-    ensures { λ r. ⌜ now (out .exit) ≡ outputOf (pageOf layout1 (now (image .entry)) start (length (now (out .entry)))) (now (out .entry)) ⌝ }
+    ensures { λ r. ⌜ r ≡ P.packed P.runWord (pageOf known (now (image .entry)) start (length (now (out .entry)))) ⌝ }
+    ensures { λ r. ⌜ now (out .exit) ≡ outputOf (pageOf known (now (image .entry)) start (length (now (out .entry)))) (now (out .entry)) ⌝ }
 {
     packed(paged(page(image, start as usize, out)))
 }
@@ -101,8 +116,8 @@ pub extern "C" fn bcf_page(image: &[u8], start: u64, out: &mut [u64]) -> u64
 // The occupancy of 24 front buckets as text.
 #[no_mangle]
 pub extern "C" fn bcf_occupancy(image: &[u8], page: u64, out: &mut [u8]) -> u64
-    ensures { λ r. ⌜ r ≡ P.packed P.nothing (occupancyOf layout1 (now (image .entry)) page (length (now (out .entry)))) ⌝ }
-    ensures { λ r. ⌜ now (out .exit) ≡ printed (occupancyOf layout1 (now (image .entry)) page (length (now (out .entry)))) (now (out .entry)) ⌝ }
+    ensures { λ r. ⌜ r ≡ P.packed P.nothing (occupancyOf known (now (image .entry)) page (length (now (out .entry)))) ⌝ }
+    ensures { λ r. ⌜ now (out .exit) ≡ printed (occupancyOf known (now (image .entry)) page (length (now (out .entry)))) (now (out .entry)) ⌝ }
 {
     packed(done(occupancy(image, page, out)))
 }
@@ -110,9 +125,27 @@ pub extern "C" fn bcf_occupancy(image: &[u8], page: u64, out: &mut [u8]) -> u64
 // Two images into a third.
 #[no_mangle]
 pub extern "C" fn bcf_merge<'a>(first: &'a [u8], second: &'a [u8], target: &mut [u8]) -> u64
-    ensures { λ r. ⌜ r ≡ P.packed P.nothing (mergeOf layout1 (now (first .entry)) (now (second .entry)) (now (target .entry))) ⌝ }
+    ensures { λ r. ⌜ r ≡ P.packed P.nothing (mergeOf known (now (first .entry)) (now (second .entry)) (now (target .entry))) ⌝ }
     ensures { λ r. ⌜ now (target .exit)
-        ≡ targetOf layout1 (mergeOf layout1 (now (first .entry)) (now (second .entry)) (now (target .entry))) (now (target .entry)) ⌝ }
+        ≡ targetOf known (now (first .entry)) (mergeOf known (now (first .entry)) (now (second .entry)) (now (target .entry))) (now (target .entry)) ⌝ }
 {
     packed(done(merge(first, second, target)))
+}
+
+// An image of document 01's form into one with a tail.
+#[no_mangle]
+pub extern "C" fn bcf_attach(old: &[u8], target: &mut [u8]) -> u64
+    ensures { λ r. ⌜ r ≡ P.packed P.nothing (attachOf known 1 (now (old .entry)) (now (target .entry))) ⌝ }
+    ensures { λ r. ⌜ now (target .exit) ≡ written (attachOf known 1 (now (old .entry)) (now (target .entry))) (now (target .entry)) ⌝ }
+{
+    packed(done(attach(old, target)))
+}
+
+// An image without its tail into one of document 01's form.
+#[no_mangle]
+pub extern "C" fn bcf_detach(image: &[u8], target: &mut [u8]) -> u64
+    ensures { λ r. ⌜ r ≡ P.packed P.nothing (detachOf known 1 (now (image .entry)) (now (target .entry))) ⌝ }
+    ensures { λ r. ⌜ now (target .exit) ≡ written (detachOf known 1 (now (image .entry)) (now (target .entry))) (now (target .entry)) ⌝ }
+{
+    packed(done(detach(image, target)))
 }

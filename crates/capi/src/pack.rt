@@ -5,15 +5,20 @@ use answers::CountResult;
 use answers::Outcome;
 use answers::PageResult;
 use answers::Place;
+use answers::Refusal;
 use answers::RowResult;
+use answers::TailResult;
 use answers::pairs::Said;
 use answers::pairs::refused;
 ghost use mathlib.Core.Path.{_≡_};
 ghost use Prim.Native.Nat.{_^_, _<_};
-ghost use Rattle.answers.specs.Answers.{outcomeOf, placeOf, askedOf, countedOf, pagedOf};
+ghost use lib.ListN.{length};
+ghost use Rattle.machine.specs.OccupancyPages.{printed};
+ghost use Rattle.answers.specs.Answers.{outcomeOf, placeOf, askedOf, countedOf, pagedOf, tailedOf};
 ghost use Rattle.answers.specs.Pairs.{saidOf, itself};
 ghost use Rattle.answers.specs.Rows.{rowedOf};
 ghost use Rattle.capi.specs.Packing.{pack, Packs, Within, nothing, placeWord, askWord, countWord, extentWord};
+ghost use Rattle.capi.specs.Totals.{toldInto};
 
 // Number × 2^56 + value.
 pub fn packed(said: Said) -> u64
@@ -23,7 +28,7 @@ pub fn packed(said: Said) -> u64
     said.number * 72057594037927936 + said.value
 }
 
-// What a fresh, a check, a merge or an occupancy page gives.
+// What a fresh, a check, a merge, a move or an occupancy page gives.
 pub(crate) fn done(given: Outcome) -> Said
     ensures { λ s. ⌜ s ≡ saidOf nothing (outcomeOf given) ⌝ }
 {
@@ -106,5 +111,26 @@ pub fn rowed(given: RowResult) -> Said
             value: total as u64,
         },
         RowResult::Refused(why) => refused(why),
+    }
+}
+
+// What a tail gives; the total, then the change count, go into `out`.
+pub(crate) fn tailed(given: TailResult, out: &mut [u64]) -> Said
+    ensures { λ s. ⌜ s ≡ saidOf nothing (toldInto (tailedOf given) (length (now (out .entry)))) ⌝ }
+    ensures { λ s. ⌜ now (out .exit) ≡ printed (toldInto (tailedOf given) (length (now (out .entry)))) (now (out .entry)) ⌝ }
+{
+    match given {
+        TailResult::Accepted(told) => {
+            if out.len() < 2 {
+                return refused(Refusal::NoRoom);
+            }
+            out[0] = told.total;
+            out[1] = told.changes;
+            Said {
+                number: 0,
+                value: 0,
+            }
+        }
+        TailResult::Refused(why) => refused(why),
     }
 }

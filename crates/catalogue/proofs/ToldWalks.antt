@@ -6,10 +6,10 @@ use mathlib.Core.List.{List, _++_}
 use native.Mathlib.Omega.{arith}
 use lib.ListN.{length, take, drop}
 use lib.Seq.{take-append-seam}
-use Rattle.crumbmap.specs.Layouts.{layout1}
+use Rattle.crumbmap.specs.Layouts.{known, layout1}
 use Rattle.machine.specs.Results.{Result, accepted, refused}
 use Rattle.machine.specs.Pages.{Run}
-use Rattle.machine.specs.Calls.{pageOf}
+use Rattle.form.specs.Calls.{pageOf}
 use Rattle.answers.specs.Answers.{extentOf}
 use Rattle.answers.specs.declared.PageResult.the-variants as G
 use Rattle.history.specs.Histories as H
@@ -23,7 +23,7 @@ use Rattle.catalogue.proofs.ToldRuns.{refusal-never, performed, kept}
 -- on the machine, a page from s into so much room gives these entries and this next bucket
 pub record Gives (img : List ℕ) (s room : ℕ) (gs : List ℕ) (next : ℕ) : Type 0 where
   pub run : Run
-  pub page : pageOf layout1 img s room ≡ accepted run
+  pub page : pageOf known img s room ≡ accepted run
   pub entries : gs ≡ run .entries
   pub goes-on : next ≡ run .next
 
@@ -54,12 +54,12 @@ page-wrote (asked k r p) e = tt
 page-wrote (counted k r p) e = tt
 page-wrote (paged s old (G.Refused x) out p) e = absurd (refusal-never (ℕ × ℕ) x e)
 page-wrote {img} (paged s old (G.Accepted n next) out p) e =
-    let x = extent-accepted (pageOf layout1 img s (length old)) n next (p .answer) in
+    let x = extent-accepted (pageOf known img s (length old)) n next (p .answer) in
     let wrote : out ≡ x .0 .entries ++ drop (length (x .0 .entries)) old = cc (p .bytes, x .1) in
     record { run = x .0; page = x .1; entries = first-entries out (x .0 .entries) (drop (length (x .0 .entries)) old) n wrote (x .2); goes-on = x .3 }
 
 -- a call that altered nothing, in the history's words
-unaltered : (h : History) {img new : List ℕ} {n : ℕ} (c : Call) → img ≡ bytesAfter layout1 h → Performed img c n new → (Alters c n → ⊥) → W.Alters layout1 h c → ⊥
+unaltered : (h : History) {img new : List ℕ} {n : ℕ} (c : Call) → img ≡ bytesAfter known h → Performed img c n new → (Alters c n → ⊥) → W.Alters known h c → ⊥
 unaltered h (H.insert k) e p quiet a = quiet (performed p .0 ∙ rw e a)
 unaltered h (H.delete k) e p quiet a = quiet (performed p .0 ∙ rw e a)
 unaltered h (H.ask k) e p quiet a = a
@@ -68,10 +68,10 @@ unaltered h (H.page s room) e p quiet a = a
 
 -- a page on the image that a run left is a page after its history
 page-after : {h : History} {img : List ℕ} (run : Happened h img) {s room : ℕ} {gs : List ℕ} {next : ℕ} (g : Gives img s room gs next)
-    → pageOf layout1 (bytesAfter layout1 h) s room ≡ accepted (g .run)
-page-after run {s} {room} g = ap (λ (i : List ℕ). pageOf layout1 i s room) (sym (kept run .1)) ∙ g .page
+    → pageOf known (bytesAfter known h) s room ≡ accepted (g .run)
+page-after run {s} {room} g = ap (λ (i : List ℕ). pageOf known i s room) (sym (kept run .1)) ∙ g .page
 
-walked : {h : History} {img : List ℕ} {run : Happened h img} {N : ℕ → ℕ} {gs : List ℕ} {s : ℕ} → Walk h img run N gs s → W.Walk layout1 h N gs s
+walked : {h : History} {img : List ℕ} {run : Happened h img} {N : ℕ → ℕ} {gs : List ℕ} {s : ℕ} → Walk h img run N gs s → W.Walk known layout1 h N gs s
 walked (begun h img new run room p) =
     let g = page-wrote p refl in
     rw (g .entries, g .goes-on) (W.begun h room (g .run) (page-after run g))
@@ -80,6 +80,6 @@ walked (continued h img new run N gs s room p w) =
     rw (g .entries, g .goes-on) (W.continued h N gs s room (g .run) (walked w) (page-after run g))
 walked (meanwhile h img new run N gs s c n fits p w quiet) = W.meanwhile h N gs s c (walked w) (unaltered h c (kept run .1) p quiet)
 
-pub walk-told : {h : History} {img : List ℕ} {run : Happened h img} {N : ℕ → ℕ} {gs : List ℕ} → FullWalk h img run N gs → W.FullWalk layout1 h N gs
+pub walk-told : {h : History} {img : List ℕ} {run : Happened h img} {N : ℕ → ℕ} {gs : List ℕ} → FullWalk h img run N gs → W.FullWalk known layout1 h N gs
 walk-told (ended h img run N gs w) = W.ended h N gs (walked w)
 walk-told (since h img new run N gs c n fits p w) = W.since h N gs c (walk-told w)

@@ -5,7 +5,7 @@ use mathlib.Core.Path.{_≡_}
 use Prim.Native.Nat.{ℕ}
 use mathlib.Core.List.{List, [], _++_}
 use lib.ListN.{take}
-use Rattle.crumbmap.specs.Layouts.{layout1, fronts}
+use Rattle.crumbmap.specs.Layouts.{known, layout1, fronts}
 use Rattle.answers.specs.declared.PageResult.{PageResult}
 use Rattle.answers.specs.declared.PageResult.the-variants as G
 use Rattle.history.specs.Histories as H
@@ -48,7 +48,7 @@ Alters (H.page s room) n = ⊥
 -- a walk in a run's own list: "N as it stood at the walk's first page", the entries written so far "joined in order", the next bucket
 pub data Walk : (h : History) (img : List ℕ) → Happened h img → (ℕ → ℕ) → List ℕ → ℕ → Type 0 where
   begun : (h : History) (img new : List ℕ) (run : Happened h img) (room : ℕ) (p : Performed img (H.page 0 room) 0 new)
-      → Walk (H.followed h (H.page 0 room)) new (followed (H.page 0 room) 0 new run tt p) (ledger layout1 h) (entriesOf p) (nextOf p)
+      → Walk (H.followed h (H.page 0 room)) new (followed (H.page 0 room) 0 new run tt p) (ledger known layout1 h) (entriesOf p) (nextOf p)
   continued : (h : History) (img new : List ℕ) (run : Happened h img) (N : ℕ → ℕ) (gs : List ℕ) (s room : ℕ) (p : Performed img (H.page s room) 0 new)
       → Walk h img run N gs s
       → Walk (H.followed h (H.page s room)) new (followed (H.page s room) 0 new run tt p) N (gs ++ entriesOf p) (nextOf p)

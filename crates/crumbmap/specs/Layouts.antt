@@ -1,5 +1,8 @@
 -- The numbers that a layout fixes, and those that the size B of an image fixes.
 use Prim.Native.Nat.{ℕ, _+_, _*_, _/_, _^_}
+use mathlib.Core.Bool.{cond}
+use mathlib.Core.Option.{Option, none, some}
+use lib.Dec.{eqb}
 
 pub record Layout : Type 0 where
   pub minis : ℕ
@@ -10,6 +13,14 @@ pub record Layout : Type 0 where
 -- "each of the 36 mini-buckets", "Front: 28 slots", "Backyard: 22 slots", "tags, two bytes each"
 abbrev pub layout1 : Layout
 layout1 = record { minis = 36; frontSlots = 28; backSlots = 22; tagBytes = 2 }
+
+-- layouts by their numbers; a number without one is that of no layout
+abbrev pub Numbering : Type 0
+Numbering = ℕ → Option Layout
+
+-- the layouts that there are (C-14): "layout 1"; any other number "is unknown"
+abbrev pub known : Numbering
+known n = cond (eqb n 1) (some layout1) none
 
 -- the most members behind a front bucket, and the most of a front bucket with those behind it
 abbrev pub mostBehind : Layout → ℕ

@@ -1,28 +1,40 @@
 -- A delete by what was read: the copy stands in front with free slots, in a full front that is refilled, behind it, or nowhere.
 use mathlib.Core.Path.{_≡_, _∙_}
-use Prim.Native.Nat.{ℕ, _+_, _≤_, _<_}
+use Prim.Native.Nat.{ℕ, _+_, _-_, _≤_, _<_}
 use mathlib.Core.Bool.{true, false}
 use mathlib.Core.List.{List, [], _∷_}
+use native.Mathlib.Decide.{ℕ-discrete}
 use native.Mathlib.Omega.{arith}
-use lib.ListN.{length}
+use lib.ListN.{length, take}
+use lib.Dec.{ltb}
 use borrow.Author.Tests.{lt-ltb, le-ltb, eq-eqb, ne-eqb}
 use Rattle.multiset.specs.Multisets.{added, removed, copies, largest}
-use Rattle.crumbmap.specs.Layouts.{Layout}
+use Rattle.crumbmap.specs.Layouts.{Layout, layout1, known}
 use Rattle.buckets.specs.Buckets.{Fits64, FrontList}
 use Rattle.machine.specs.Results.{refused}
 use Rattle.machine.specs.Images.{inFront, inBack, putFront}
 use Rattle.machine.specs.Bags.{has}
 use Rattle.machine.specs.Machine.{backyard, changed, overflow, overflowIn, takeOut, refill, deleteAt}
+use Rattle.machine.specs.Calls as M
+use Rattle.form.specs.Tails.{body, lowered}
+use Rattle.form.specs.Calls.{changedBy, deleteOf}
 use Rattle.answers.specs.Answers.{refusal}
 use Rattle.answers.specs.declared.Refusal.{Refusal}
-use Rattle.image.specs.Steps.ImageReads.{FrontRead, FrontFull, Exceeds, BothRead}
+use Rattle.answers.specs.declared.Refusal.the-variants.{Miscounted}
+use Rattle.answers.proofs.ChangeLaws.{changes, change-refused}
+use Rattle.image.specs.Steps.ImageReads.{Locates, FrontRead, FrontFull, Exceeds, BothRead}
 use Rattle.image.specs.declared.Target.{Target}
 use Rattle.image.proofs.ImageReadLaws.{both-accepts, exceeds-absent, at-copies}
 use Rattle.image.proofs.ImageWriteLaws.{back-kept}
 use Rattle.machine.proofs.BagLaws.{has-yes, has-no}
 use Rattle.machine.proofs.Members.{inBack-choice, frontList-swapped}
 use Rattle.machine.proofs.BucketWrites.{inBack-putFront}
-use Rattle.deletion.specs.Steps.Deletions.{Stands, Leaves, without, refilled, Plans, LeavesFront, Refills, TakesOut}
+use Rattle.tails.specs.Steps.Openings.{Opens, headerOf}
+use Rattle.tails.specs.Steps.Changing.{within, adjusted}
+use Rattle.tails.specs.declared.Opened.{Opened}
+use Rattle.tails.proofs.OpenLaws.{entered}
+use Rattle.tails.proofs.CallLaws.{hash-call}
+use Rattle.deletion.specs.Steps.Deletions.{DeletesAt, roomless, Stands, Leaves, without, refilled, Plans, LeavesFront, Refills, TakesOut}
 use Rattle.deletion.specs.declared.Departure.{Departure}
 use Rattle.deletion.specs.declared.Refill.{Refill}
 use Rattle.deletion.specs.declared.DeletePlan.{DeletePlan}
@@ -161,3 +173,35 @@ module _ (L : Layout) (t : Target) (img : List ℕ) {r : DeletePlan} (said : Pla
 
   pub plan-takes-out : {d : Departure} → r ≡ P.TakesOut d → TakesOut L t d img
   plan-takes-out e = rw e at said
+
+-- the refusal of a plan for which the total has no room
+pub plan-roomless : (L : Layout) (t : Target) (img : List ℕ) (r : DeletePlan) → Plans L t img r → DeletesAt L t false img (roomless r) img
+unfolding within
+plan-roomless L t img (P.Refused why) said = changes (rw said) (change-refused why img)
+plan-roomless L t img (P.Leaves slot) said = changes (rw (said .delete)) (change-refused Miscounted img)
+plan-roomless L t img (P.Refills r) said = changes (rw (said .delete)) (change-refused Miscounted img)
+plan-roomless L t img (P.TakesOut d) said = changes (rw (said .delete)) (change-refused Miscounted img)
+
+-- ---- on an image that was opened, by the delete of its body
+
+module _ {o : Opened} {img : List ℕ} (s : Opens o img) (k : ℕ) where
+  pub delete-entered : deleteOf known img k ≡ changedBy (headerOf (o .size) (o .total) (o .changes)) (M.deleteOf layout1 (body img) k)
+      (lowered layout1 (record { total = o .total; changes = o .changes }))
+  unfolding deleteOf
+  delete-entered = entered (λ h. changedBy h (M.deleteOf (h .layout) (body img) k) (lowered (h .layout) (h .tail))) s
+
+  pub delete-opened : {t : Target} → Locates layout1 (o .size) k t
+      → deleteOf known img k
+      ≡ changedBy (headerOf (o .size) (o .total) (o .changes)) (deleteAt layout1 (t .size) (t .front .0) (t .key) (take (o .end) img))
+      (lowered layout1 (record { total = o .total; changes = o .changes }))
+  unfolding M.deleteOf
+  delete-opened l = delete-entered ∙ rw (hash-call s l (λ B f x b. deleteAt layout1 B f x b))
+
+-- the room that the total has for one less
+pub lowered-room : (total changes : ℕ)
+    → lowered layout1 (record { total = total; changes = changes }) ≡ adjusted (ltb 0 total) (record { total = total - 1; changes = changes + 1 })
+unfolding lowered
+lowered-room total changes = elim (ℕ-discrete total 0) [
+  | yes e ↦ rw (eq-eqb total 0 e, le-ltb 0 total (omega arith))
+  | no e ↦ rw (ne-eqb total 0 e, lt-ltb 0 total (omega arith))
+]

@@ -1,4 +1,4 @@
-// Delete: planned, then written.
+// Delete: planned, then written, body and tail.
 
 use crate::DeletePlan;
 use crate::Departure;
@@ -6,35 +6,64 @@ use crate::Refill;
 use crate::plan::plan;
 use answers::ChangeResult;
 use answers::Refusal;
-use image::Located;
 use image::Target;
 use image::back::remove_back_at;
 use image::front::remove_front_at;
 use image::front::swap_front_at;
-use image::place::locate;
+use image::place::target_of;
+use tails::Opened;
+use tails::Opening;
+use tails::open::open_image;
+use tails::tail::TOP;
+use tails::tail::write_tail;
 ghost use mathlib.Core.Path.{_≡_};
 ghost use Prim.Native.Nat.{_+_};
 ghost use Rattle.crumbmap.specs.Layouts.{layout1};
 ghost use Rattle.answers.specs.Answers.{Deletes};
 ghost use Rattle.image.specs.Steps.ImageReads.{Placed};
-ghost use Rattle.deletion.specs.Steps.Deletions.{DeletesAt, Stands, Refills, without, refilled};
+ghost use Rattle.tails.specs.Steps.Openings.{Opens};
+ghost use Rattle.deletion.specs.Steps.Deletions.{DeletesAt, roomless, Stands, Refills, without, refilled};
 
 // One copy less of a hash's fingerprint.
 pub fn delete(image: &mut [u8], hash: u64) -> ChangeResult
-    ensures { λ r. ⌜ Deletes layout1 (now (image .entry)) hash r (now (image .exit)) ⌝ }
+    ensures { λ r. ⌜ Deletes (now (image .entry)) hash r (now (image .exit)) ⌝ }
 {
-    let Located::At(target) = locate(image.len(), hash) else {
-        return ChangeResult::Refused(Refusal::WrongLength);
-    };
-    delete_at(image, target)
+    match open_image(image) {
+        Opening::Refused(why) => ChangeResult::Refused(why),
+        Opening::At(opened) => delete_opened(image, opened, hash),
+    }
 }
 
-// What was planned is written.
-fn delete_at(image: &mut [u8], target: Target) -> ChangeResult
-    requires { ⌜ Placed layout1 target (now image) ⌝ }
-    ensures { λ r. ⌜ DeletesAt layout1 target (now (image .entry)) r (now (image .exit)) ⌝ }
+// The same on an image that was opened: 13 before the body is read, and its tail once the body is written.
+fn delete_opened(image: &mut [u8], opened: Opened, hash: u64) -> ChangeResult
+    requires { ⌜ Opens opened (now image) ⌝ }
+    ensures { λ r. ⌜ Deletes (now (image .entry)) hash r (now (image .exit)) ⌝ }
 {
-    match plan(image, target) {
+    if opened.changes == TOP {
+        return ChangeResult::Refused(Refusal::Spent);
+    }
+    let end = opened.end;
+    let target = target_of(opened.size, hash);
+    let room = 0 < opened.total;
+    match delete_at(&mut image[..end], target, room) {
+        ChangeResult::Refused(why) => ChangeResult::Refused(why),
+        ChangeResult::Accepted(answer) => {
+            write_tail(&mut image[end..], opened.total - 1, opened.changes + 1);
+            ChangeResult::Accepted(answer)
+        }
+    }
+}
+
+// What was planned is written, where the total has room for one less: 12 is known before any byte is written.
+fn delete_at(image: &mut [u8], target: Target, room: bool) -> ChangeResult
+    requires { ⌜ Placed layout1 target (now image) ⌝ }
+    ensures { λ r. ⌜ DeletesAt layout1 target room (now (image .entry)) r (now (image .exit)) ⌝ }
+{
+    let planned = plan(image, target);
+    if !room {
+        return without_room(planned);
+    }
+    match planned {
         DeletePlan::Refused(why) => ChangeResult::Refused(why),
         DeletePlan::Leaves(slot) => {
             remove_front_at(image, target.front, slot, target.key);
@@ -46,6 +75,18 @@ fn delete_at(image: &mut [u8], target: Target) -> ChangeResult
             target.size,
             member,
         )),
+    }
+}
+
+// Why a delete is refused for which the total has no room: its own refusal, else 12.
+fn without_room(planned: DeletePlan) -> ChangeResult
+    ensures { λ r. ⌜ r ≡ roomless planned ⌝ }
+{
+    match planned {
+        DeletePlan::Refused(why) => ChangeResult::Refused(why),
+        DeletePlan::Leaves(_) => ChangeResult::Refused(Refusal::Miscounted),
+        DeletePlan::Refills(_) => ChangeResult::Refused(Refusal::Miscounted),
+        DeletePlan::TakesOut(_) => ChangeResult::Refused(Refusal::Miscounted),
     }
 }
 

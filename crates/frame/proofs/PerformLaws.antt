@@ -78,17 +78,17 @@ performs-line f old out new printed n op s t e p i =
 
 -- ---- what image and output must be
 
-pub unfit-image : (img out : List ℕ) → (length img ≡ 2176 → ⊥) → fit img out ≡ false
+pub unfit-image : (img out : List ℕ) → (length img ≡ 2240 → ⊥) → fit img out ≡ false
 unfolding fit
-unfit-image img out h = rw (ne-eqb (length img) 2176 h)
+unfit-image img out h = rw (ne-eqb (length img) 2240 h)
 
-pub unfit-output : (img out : List ℕ) → length img ≡ 2176 → length out < 29397 → fit img out ≡ false
+pub unfit-output : (img out : List ℕ) → length img ≡ 2240 → length out < 29397 → fit img out ≡ false
 unfolding fit
-unfit-output img out e h = rw (eq-eqb (length img) 2176 e, lt-leb 29397 (length out) h)
+unfit-output img out e h = rw (eq-eqb (length img) 2240 e, lt-leb 29397 (length out) h)
 
-pub fit-both : (img out : List ℕ) → length img ≡ 2176 → 29397 ≤ length out → fit img out ≡ true
+pub fit-both : (img out : List ℕ) → length img ≡ 2240 → 29397 ≤ length out → fit img out ≡ true
 unfolding fit
-fit-both img out e h = rw (eq-eqb (length img) 2176 e, le-leb 29397 (length out) h)
+fit-both img out e h = rw (eq-eqb (length img) 2240 e, le-leb 29397 (length out) h)
 
 pub answers-unfit : (input old out : List ℕ) → fit old out ≡ false → Answers input old out Unfit old out
 answers-unfit input old out e = record { count = rw e; text = rw e; image = rw e }

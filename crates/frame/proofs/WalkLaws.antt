@@ -1,18 +1,22 @@
 -- A list is a whole walk: its page starts at 0, has room for every member, and so ends at the last bucket. Main result: list-whole.
 use mathlib.Core.Path.{_≡_, sym, _∙_, ap}
-use Prim.Native.Nat.{ℕ}
+use Prim.Native.Nat.{ℕ, _*_, _≤_}
 use mathlib.Core.Bool.{Bool, true, false, cond, _&&_}
 use mathlib.Core.List.{List}
+use mathlib.Core.Option.{none, some}
 use native.Mathlib.Omega.{arith}
 use lib.ListN.{length}
 use lib.Dec.{eqb, ltb}
-use Rattle.crumbmap.specs.Layouts.{layout1, fronts}
+use Rattle.crumbmap.specs.Layouts.{Layout, layout1, known, mostMembers, fronts}
 use Rattle.machine.specs.Results.{accepted, refused}
-use Rattle.machine.specs.Images.{sizeOf, lengthOf}
+use Rattle.machine.specs.Images.{sized, sizeOf, lengthOf}
 use Rattle.machine.specs.Pages.{Run, pageFrom}
-use Rattle.machine.specs.Calls.{pageOf}
+use Rattle.machine.specs.Calls as M
 use Rattle.machine.proofs.AcceptedLaws.{same-answer, andThen-accepted}
 use Rattle.machine.proofs.RoomLaws.{run-whole}
+use Rattle.form.specs.Tails.{Header, body, opened}
+use Rattle.form.specs.Calls.{pageOf}
+use Rattle.form.proofs.TailLaws.{length-body, headed-parts}
 use Rattle.frame.specs.Frames.{room}
 
 kept-run : (t : Bool) (q r : Run) → t ≡ false → cond t (refused 7 0) (accepted q) ≡ accepted r → q ≡ r
@@ -24,8 +28,29 @@ page-end q r n e =
     let g = kept-run (eqb (q .next) 0 && ltb 0 24) q r (ap (λ (m : ℕ). eqb m 0 && ltb 0 24) n) e in
     ap (λ (x : Run). x .next) (sym g) ∙ n
 
-pub list-whole : (img : List ℕ) (r : Run) → length img ≡ 2176 → pageOf layout1 img 0 room ≡ accepted r → r .next ≡ 24
-unfolding pageOf pageFrom sizeOf lengthOf fronts
-list-whole img r l e =
+-- the room of a list is enough for 24 buckets of every layout that there is
+known-room : (n : ℕ) (L : Layout) → known n ≡ some L → 24 * mostMembers L ≤ room
+known-room n L e = go (eqb n 1) e
+  where
+    go : (b : Bool) → cond b (some layout1) none ≡ some L → 24 * mostMembers L ≤ room
+    go true q = let same : layout1 ≡ L = cc in rw (← same) (omega arith)
+    go false q = let z : _≡_ {A = ℕ} 0 1 = cc in absurd (omega arith)
+
+-- the page of a body with B = 3 ends at the last bucket
+body-whole : (L : Layout) (b : List ℕ) (r : Run) → 24 * mostMembers L ≤ room → length b ≡ 2176 → M.pageOf L b 0 room ≡ accepted r → r .next ≡ 24
+unfolding M.pageOf pageFrom sizeOf lengthOf fronts
+body-whole L b r h l e =
     let k = andThen-accepted {A = Run} _ _ r (rw l at e) in
-    page-end (k .0) r (run-whole layout1 3 24 0 room img (k .0) (omega arith) (k .1)) (k .2)
+    page-end (k .0) r (run-whole L 3 24 0 room b (k .0) h (k .1)) (k .2)
+
+-- the layout of an image that is opened is one that there is
+opened-known : (img : List ℕ) (h : Header) → opened known img ≡ accepted h → known (h .number) ≡ some (h .layout)
+unfolding opened
+opened-known img h e = let s = andThen-accepted (sized (body img)) _ h e in headed-parts known (s .0) img h (s .2) .layout
+
+pub list-whole : (img : List ℕ) (r : Run) → length img ≡ 2240 → pageOf known img 0 room ≡ accepted r → r .next ≡ 24
+unfolding pageOf
+list-whole img r l e =
+    let o = andThen-accepted (opened known img) _ r e in
+    let b : length (body img) ≡ 2176 = omega (arith, length-body img) in
+    body-whole (o .0 .layout) (body img) r (known-room (o .0 .number) (o .0 .layout) (opened-known img (o .0) (o .1))) b (o .2)

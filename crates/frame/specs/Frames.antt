@@ -7,12 +7,13 @@ use mathlib.Core.List.{List, [], _++_}
 use mathlib.Core.Option.{Option, none, some, bind}
 use lib.ListN.{length, take, drop}
 use lib.Dec.{eqb, leb}
-use Rattle.crumbmap.specs.Layouts.{layout1}
+use Rattle.crumbmap.specs.Layouts.{known}
 use Rattle.buckets.specs.Buckets.{given}
 use Rattle.machine.specs.Results.{Result, accepted, refused}
 use Rattle.machine.specs.Machine.{Asked, Counted, Place, nowhere, front, first, second}
 use Rattle.machine.specs.Pages.{Run}
-use Rattle.machine.specs.Calls.{insertOf, deleteOf, askOf, countOf, pageOf, imageOf}
+use Rattle.machine.specs.Calls.{imageOf}
+use Rattle.form.specs.Calls.{insertOf, deleteOf, askOf, countOf, pageOf}
 use Rattle.answers.specs.Pairs.{saidOf, answerValue}
 use Rattle.text.specs.Texts.{unhex, over}
 use Rattle.frame.specs.declared.Frame.{Frame}
@@ -76,16 +77,16 @@ room = 1728
 -- ---- what a frame prints, and the image after it
 
 unfoldable pub textOf : Frame → List ℕ → List ℕ
-textOf (Insert k) img = told 1 (saidOf answerValue (insertOf layout1 img k))
-textOf (Delete k) img = told 2 (saidOf answerValue (deleteOf layout1 img k))
-textOf (Ask k) img = told 3 (saidOf askValue (askOf layout1 img k))
-textOf (Count k) img = told 4 (saidOf copiesValue (countOf layout1 img k))
-textOf Listing img = listText (pageOf layout1 img 0 room)
+textOf (Insert k) img = told 1 (saidOf answerValue (insertOf known img k))
+textOf (Delete k) img = told 2 (saidOf answerValue (deleteOf known img k))
+textOf (Ask k) img = told 3 (saidOf askValue (askOf known img k))
+textOf (Count k) img = told 4 (saidOf copiesValue (countOf known img k))
+textOf Listing img = listText (pageOf known img 0 room)
 textOf Malformed img = malformed
 
 unfoldable pub imageAfter : Frame → List ℕ → List ℕ
-imageAfter (Insert k) img = imageOf (insertOf layout1 img k) img
-imageAfter (Delete k) img = imageOf (deleteOf layout1 img k) img
+imageAfter (Insert k) img = imageOf (insertOf known img k) img
+imageAfter (Delete k) img = imageOf (deleteOf known img k) img
 imageAfter (Ask k) img = img
 imageAfter (Count k) img = img
 imageAfter Listing img = img
@@ -99,7 +100,7 @@ pub record Performs (f : Frame) (old out : List ℕ) (n : ℕ) (new printed : Li
 
 -- an image with B = 3, and room for the longest text: the line of a list and 1,728 entries
 unfoldable pub fit : List ℕ → List ℕ → Bool
-fit img out = eqb (length img) 2176 && leb 29397 (length out)
+fit img out = eqb (length img) 2240 && leb 29397 (length out)
 
 -- a line is answered on the image `old`; where image or output are unfit, nothing is written
 pub record Answers (input old out : List ℕ) (r : Printed) (new printed : List ℕ) : Type 0 where

@@ -21,8 +21,8 @@ use text::print::put_malformed;
 ghost use mathlib.Core.Path.{_≡_};
 ghost use Prim.Native.Nat.{_≤_};
 ghost use lib.ListN.{length};
-ghost use Rattle.crumbmap.specs.Layouts.{layout1};
-ghost use Rattle.machine.specs.Calls.{pageOf};
+ghost use Rattle.crumbmap.specs.Layouts.{known};
+ghost use Rattle.form.specs.Calls.{pageOf};
 ghost use Rattle.answers.specs.Answers.{placeOf, askedOf, countedOf};
 ghost use Rattle.answers.specs.Pairs.{saidOf};
 ghost use Rattle.text.specs.Texts.{over};
@@ -32,7 +32,7 @@ ghost use Rattle.frame.specs.Frames.{placeNumber, askValue, copiesValue,
 pub fn frame(image: &mut [u8], line: &[u8], out: &mut [u8]) -> Printed
     ensures { λ r. ⌜ Answers (now (line .entry)) (now (image .entry)) (now (out .entry)) r (now (image .exit)) (now (out .exit)) ⌝ }
 {
-    if image.len() != 2176 {
+    if image.len() != 2240 {
         return Printed::Unfit;
     }
     if out.len() < 29397 {
@@ -99,8 +99,8 @@ fn counted(given: CountResult) -> Said
 // "For list, the member count, then a line of 16 digits for each g."
 fn list(image: &[u8], out: &mut [u8]) -> usize
     requires { ⌜ 29397 ≤ length (now out) ⌝ }
-    ensures { λ n. ⌜ n ≡ length (listText (pageOf layout1 (now (image .entry)) 0 room)) ⌝ }
-    ensures { λ n. ⌜ now (out .exit) ≡ over 0 (listText (pageOf layout1 (now (image .entry)) 0 room)) (now (out .entry)) ⌝ }
+    ensures { λ n. ⌜ n ≡ length (listText (pageOf known (now (image .entry)) 0 room)) ⌝ }
+    ensures { λ n. ⌜ now (out .exit) ≡ over 0 (listText (pageOf known (now (image .entry)) 0 room)) (now (out .entry)) ⌝ }
 {
     let mut entries = [0u64; 1728];
     list_by(image, &mut entries, out)
@@ -109,8 +109,8 @@ fn list(image: &[u8], out: &mut [u8]) -> usize
 // A list by way of a slice with room for every member.
 fn list_by(image: &[u8], entries: &mut [u64], out: &mut [u8]) -> usize
     requires { ⌜ (length (now entries) ≡ room) × (29397 ≤ length (now out)) ⌝ }
-    ensures { λ n. ⌜ n ≡ length (listText (pageOf layout1 (now (image .entry)) 0 room)) ⌝ }
-    ensures { λ n. ⌜ now (out .exit) ≡ over 0 (listText (pageOf layout1 (now (image .entry)) 0 room)) (now (out .entry)) ⌝ }
+    ensures { λ n. ⌜ n ≡ length (listText (pageOf known (now (image .entry)) 0 room)) ⌝ }
+    ensures { λ n. ⌜ now (out .exit) ≡ over 0 (listText (pageOf known (now (image .entry)) 0 room)) (now (out .entry)) ⌝ }
 {
     match page(image, 0, entries) {
         PageResult::Accepted(n, _) => {

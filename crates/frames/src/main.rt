@@ -13,7 +13,7 @@ ghost use Rattle.lines.specs.Steps.Turns.{Room};
 ghost use Rattle.frames.specs.Steps.Runs.{Took, Ran};
 
 fn main() {
-    let mut image = [0u8; 2176];
+    let mut image = [0u8; 2240];
     start(&mut image);
     let mut line = [0u8; 19];
     let mut out = [0u8; 29397];

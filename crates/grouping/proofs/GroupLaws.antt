@@ -1,12 +1,13 @@
 -- What is known of a state while a row is tested, for any layout. Main results: an accepted ask has read its buckets (`asked-read`), keys below
--- the bound need no more of them (`bound-asked`), and what is known stays known (`known-opened`, `known-tested`).
+-- the bound need no more of them (`bound-asked`), and what is known stays known (`known-started`, `known-tested`).
 use mathlib.Core.Path.{_≡_, refl, sym, ap}
-use Prim.Native.Nat.{ℕ, _+_, _*_, _^_, _≤_, _<_, max}
+use Prim.Native.Nat.{ℕ, _+_, _*_, _-_, _^_, _≤_, _<_, max}
 use mathlib.Core.Bool.{Bool, true, false, cond, _&&_}
 use mathlib.Core.List.{List}
 use mathlib.Core.Option.{some}
 use native.Mathlib.Omega.{arith}
-use lib.ListN.{length}
+use lib.ListN.{length, take, getD, List·getD-eq-default}
+use lib.Seq.{getD-take}
 use lib.Dec.{eqb, ltb, leb}
 use borrow.Author.Tests.{ltb-true, ltb-false, leb-true, leb-false, eqb-true, eqb-false, le-ltb}
 use Rattle.multiset.specs.Multisets.{foundIn, largest}
@@ -22,11 +23,23 @@ use Rattle.machine.specs.Images.{sizeOf, bucketAt, frontAt, backAt, inFront, in
 use Rattle.machine.specs.Machine.{Asked, askAt}
 use Rattle.machine.proofs.AcceptedLaws.{was-sound, same-answer, never-refused}
 use Rattle.machine.proofs.RowLaws.{of-search, of-test, ask-ends, asked-some, ask-refused}
+use Rattle.form.specs.Tails.{body}
+use Rattle.form.proofs.TailLaws.{length-body}
 use Rattle.image.specs.Steps.ImageReads.{FrontIn, BackIn, FrontRead, BackRead, FrontSays, BackSays}
 use Rattle.image.proofs.ImageReadLaws.{whole-of, front-in, back-in}
 use Rattle.image.proofs.PartLaws.{front-says, back-says}
-use Rattle.grouping.specs.Steps.Grouping.{Bytes, held, reachAt, boundAt, GroupRead, sharing, descended, passed, advanced, testedAt, tested, Live, Known, Extends, opened}
+use Rattle.grouping.specs.Steps.Grouping.{Bytes, held, reachAt, boundAt, GroupRead, sharing, descended, passed, advanced, testedAt, tested, Live, Known, Extends, startedAt}
 use Rattle.grouping.specs.declared.State.{State}
+
+-- the body of bytes is bytes
+pub body-bytes : (img : List ℕ) → Bytes img → Bytes (body img)
+unfolding body
+body-bytes img bytes i = go (ltb i (length img - 64)) refl
+  where
+    go : (b : Bool) → ltb i (length img - 64) ≡ b → getD (take (length img - 64) img) i 0 < 256
+    go true h = rw (getD-take (length img - 64) img i 0 (ltb-true i (length img - 64) h)) (bytes i)
+    go false h =
+        rw (List·getD-eq-default (take (length img - 64) img) 0 {n = i} (omega (arith, length-body img, ltb-false i (length img - 64) h))) (omega arith)
 
 -- ---- a bucket that was accepted is sound
 
@@ -188,9 +201,9 @@ tested-same L img s known x h = of-tested L img s (s .front) x (λ t. s ≡ t)
         let one : held s (s .front) ≡ s .reads = rw (le-ltb (s .front) (s .front) (omega arith)) in
         rw (one, p .1, m) (alike s (sym z) refl (sym (live .bound)) (sym (live .table)) (omega arith))
 
-pub known-opened : (L : Layout) {B : ℕ} (img : List ℕ) → sizeOf (length img) ≡ some B → Known L img (opened (some B))
+pub known-started : (L : Layout) {B : ℕ} (img : List ℕ) → sizeOf (length img) ≡ some B → (n : ℕ) → Known L img (startedAt 1 (some B) n)
 unfolding fronts boundAt
-known-opened L img e =
+known-started L img e n =
     let w = whole-of img e in
     record { whole = w; front = omega arith; live = λ z. record { few = omega arith; table = refl; most = omega arith; group = none-read; bound = refl } }
 

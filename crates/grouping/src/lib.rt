@@ -9,9 +9,9 @@ pub mod turn;
 use answers::Entry;
 
 // What goes from entry to entry. The phase is 0 while the row's front buckets are fetched, 1 while it is tested, 2 while its entries receive their
-// answers, 3 where it is refused; `number` and `table` are the refusal's, 0 where there is none. Of the group at `front`, the front bucket, b0 and b1,
-// `reads` are read, of all groups so far `total`; keys below `bound` need no more of them. While fetching, `total` has the bytes that were loaded.
-// The fields are in an order that leaves no gap between them.
+// answers, 3 where it is refused; `number` and `table` are the refusal's, 0 where there is none, and a bad tail's 11 stands from the beginning. Of the
+// group at `front`, the front bucket, b0 and b1, `reads` are read, of all groups so far `total`; keys below `bound` need no more of them. While
+// fetching, `total` has the bytes that were loaded. The fields are in an order that leaves no gap between them.
 pub struct State {
     pub phase: u32,
     pub number: u32,

@@ -9,19 +9,23 @@ use answers::Entry;
 use answers::Refusal;
 use answers::RowResult;
 use image::Size;
-use image::place::size_of;
+use tails::TailReading;
+use tails::open::form_size;
+use tails::open::tail_at;
 ghost use mathlib.Core.Path.{_≡_};
+ghost use Prim.Native.Nat.{_≤_};
 ghost use mathlib.Core.Option.{some};
-ghost use Rattle.crumbmap.specs.Layouts.{layout1};
-ghost use Rattle.machine.specs.Images.{sizeOf};
+ghost use lib.ListN.{length};
+ghost use Rattle.crumbmap.specs.Layouts.{layout1, known};
+ghost use Rattle.form.specs.Tails.{body};
 ghost use Rattle.answers.specs.Rows.{rowedOf};
 ghost use Rattle.grouping.specs.Steps.Grouping.{turned, Ready, startedAt, begun, resumed, resultOf};
 
-// The state before the first entry, by the image's length.
-pub fn begin(len: usize) -> State
-    ensures { λ r. ⌜ r ≡ begun (sizeOf len) ⌝ }
+// The state before the first entry, by the image's length and its tail: a wrong length is refused at once, a bad tail once the order was tested.
+pub fn begin(image: &[u8]) -> State
+    ensures { λ r. ⌜ r ≡ begun known (now (image .entry)) ⌝ }
 {
-    let Size::Buckets(size) = size_of(len) else {
+    let Size::Buckets(size) = form_size(image.len()) else {
         return State {
             phase: 3,
             number: 1,
@@ -33,16 +37,19 @@ pub fn begin(len: usize) -> State
             total: 0,
         };
     };
-    started(0, size)
+    match tail_at(image, size) {
+        TailReading::Good(_) => started(0, size, 0),
+        TailReading::Bad => started(0, size, 11),
+    }
 }
 
-// The state before the first entry in a phase, with nothing read.
-fn started(phase: u32, size: usize) -> State
-    ensures { λ r. ⌜ r ≡ startedAt phase (some size) ⌝ }
+// The state before the first entry in a phase, with nothing read, and the number that stands already, 0 where none does.
+fn started(phase: u32, size: usize, number: u32) -> State
+    ensures { λ r. ⌜ r ≡ startedAt phase (some size) number ⌝ }
 {
     State {
         phase,
-        number: 0,
+        number,
         reads: 0,
         bound: 0,
         size,
@@ -52,27 +59,36 @@ fn started(phase: u32, size: usize) -> State
     }
 }
 
+// The body of an image, all but the 64 bytes of its tail: what every step of a turn works on.
+fn body_of(image: &[u8]) -> &[u8]
+    requires { ⌜ 64 ≤ length (now image) ⌝ }
+    ensures { λ r. ⌜ now r ≡ body (now (image .entry)) ⌝ }
+{
+    let end = image.len() - 64;
+    &image[..end]
+}
+
 // One entry, with the state before it. The phase is the sweep's and comes apart from the state, so that it is seen to stay along a row.
 pub fn turn(image: &[u8], phase: u32, s: State, e: Entry) -> Turned
-    requires { ⌜ Ready layout1 (now image) phase s (e .hash) ⌝ }
-    ensures { λ r. ⌜ r ≡ turned layout1 (now (image .entry)) phase s e ⌝ }
+    requires { ⌜ Ready layout1 (body (now image)) phase s (e .hash) ⌝ }
+    ensures { λ r. ⌜ r ≡ turned layout1 (body (now (image .entry))) phase s e ⌝ }
 {
     if phase == 0 {
-        let next = fetch(image, s, e.hash);
+        let next = fetch(body_of(image), s, e.hash);
         return Turned {
             state: next,
             entry: e,
         };
     }
     if phase == 1 {
-        let next = test(image, s, e.hash);
+        let next = test(body_of(image), s, e.hash);
         return Turned {
             state: next,
             entry: e,
         };
     }
     if phase == 2 {
-        let answer = tell(image, s.size, e);
+        let answer = tell(body_of(image), s.size, e);
         return Turned {
             state: s,
             entry: answer,
@@ -86,7 +102,7 @@ pub fn resume(s: State) -> State
     ensures { λ r. ⌜ r ≡ resumed s ⌝ }
 {
     if s.phase == 0 {
-        return started(1, s.size);
+        return started(1, s.size, s.number);
     }
     let phase = if s.number == 0 { 2 } else { 3 };
     State {
@@ -114,6 +130,9 @@ pub fn outcome(s: State) -> RowResult
     }
     if number == 10 {
         return RowResult::Refused(Refusal::Descending);
+    }
+    if number == 11 {
+        return RowResult::Refused(Refusal::BadTail);
     }
     RowResult::Refused(Refusal::Unsound(s.table))
 }

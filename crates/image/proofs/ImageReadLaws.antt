@@ -21,16 +21,14 @@ use Rattle.buckets.specs.Buckets.{Fits64}
 use Rattle.minifilter.specs.declared.Reading.{Reading}
 use Rattle.minifilter.specs.declared.Reading.the-variants as R
 use Rattle.machine.specs.Results.{Result, accepted, refused, andThen}
-use Rattle.machine.specs.Images.{sizeOf, sized, frontAt, backAt, inFront, inBack}
+use Rattle.machine.specs.Images.{sizeOf, frontAt, backAt, inFront, inBack}
 use Rattle.machine.specs.Machine.{backyard, askAt}
 use Rattle.machine.proofs.AskLaws.{askBehind, ask-behind}
 use Rattle.machine.proofs.ImageLaws.{sizeOf-some, sizeOf-lengthOf, front-inside, back-inside}
-use Rattle.image.specs.Steps.ImageReads.{sizing, Locates, LocatedIn, Whole, FrontIn, Placed, BackIn, At, FrontRead, BackRead, FrontSays, BackSays, BothRead, Reads, ReadFor, BackyardSays, FrontFull, Exceeds, BagRead}
+use Rattle.image.specs.Steps.ImageReads.{sizing, Locates, Whole, FrontIn, Placed, BackIn, At, FrontRead, BackRead, FrontSays, BackSays, BothRead, Reads, ReadFor, BackyardSays, FrontFull, Exceeds, BagRead}
 use Rattle.image.specs.declared.Size.{Size}
 use Rattle.image.specs.declared.Size.the-variants.{Buckets, Wrong}
 use Rattle.image.specs.declared.Target.{Target}
-use Rattle.image.specs.declared.Located.{Located}
-use Rattle.image.specs.declared.Located.the-variants as Loc
 use Rattle.image.specs.declared.BackReading.{BackReading}
 use Rattle.image.specs.declared.BackyardReading.{BackyardReading}
 use Rattle.image.specs.declared.BackyardReading.the-variants as Y
@@ -64,19 +62,13 @@ front-in {B} {f} p = rw (p .whole .long) (front-inside B f (p .front))
 pub back-in : {B j : ℕ} {img : List ℕ} → Whole B img → j < backyards B → BackIn B j img
 back-in {B} {j} p h = record { small = p .small; bucket = h; inside = rw (p .long) (back-inside B j h) }
 
--- a call at a hash is the machine's call at the hash's target, or a refusal
-module _ (L : Layout) (img : List ℕ) (k : ℕ) {r : Located} (said : LocatedIn L (length img) k r) where
-  pub located : {A : Type 0} (g : ℕ → ℕ → ℕ → Result A) {t : Target} → r ≡ Loc.At t
-      → g (t .size) (t .front .0) (t .key) ≡ andThen (sized img) (λ B. g B (frontOf B k) (keyOf L k))
-  located g e = let l : Locates L (length img) k _ = rw e at said in rw (l .sized, l .front, l .key)
+-- a call at a hash is the machine's call at the hash's target, which fits the image
+module _ {L : Layout} {B k : ℕ} {t : Target} (l : Locates L B k t) where
+  pub located : {A : Type 0} (g : ℕ → ℕ → ℕ → Result A) → g (t .size) (t .front .0) (t .key) ≡ g B (frontOf B k) (keyOf L k)
+  located g = rw (l .size, l .front, l .key)
 
-  pub mislaid : {A : Type 0} (g : ℕ → ℕ → ℕ → Result A) → r ≡ Loc.Wrong → refused 1 0 ≡ andThen (sized img) (λ B. g B (frontOf B k) (keyOf L k))
-  mislaid g e = let l = rw e at said in rw l
-
-  pub placed : {t : Target} → r ≡ Loc.At t → Placed L t img
-  placed {t} e =
-      let l : Locates L (length img) k t = rw e at said in
-      record { within = record { whole = whole-of img (l .sized); front = l .inside }; key = l .low }
+  pub placed : {img : List ℕ} → Whole B img → Placed L t img
+  placed w = record { within = record { whole = rw (l .size) w; front = rw (l .size) (l .inside) }; key = l .low }
 
 -- ---- what a reader said
 

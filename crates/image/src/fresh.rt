@@ -1,9 +1,5 @@
-// Fresh: "every bucket empty (word 2^36 − 1, else 0)".
+// All buckets of an image emptied: "every bucket empty (word 2^36 − 1, else 0)".
 
-use crate::Size;
-use crate::place::size_of;
-use answers::Outcome;
-use answers::Refusal;
 use edits::edit::clear;
 ghost use mathlib.Core.Path.{_≡_};
 ghost use Prim.Native.Nat.{_*_, _+_, _<_, _≤_};
@@ -12,18 +8,6 @@ ghost use lib.ListN.{length};
 ghost use Rattle.crumbmap.specs.Layouts.{layout1};
 ghost use Rattle.buckets.specs.Buckets.{frontBytes};
 ghost use Rattle.machine.specs.Images.{repeated, put};
-ghost use Rattle.answers.specs.Answers.{Freshens};
-
-// The image becomes an empty catalogue, whatever its bytes were.
-pub fn fresh(image: &mut [u8]) -> Outcome
-    ensures { λ r. ⌜ Freshens layout1 (now (image .entry)) r (now (image .exit)) ⌝ }
-{
-    let Size::Buckets(size) = size_of(image.len()) else {
-        return Outcome::Refused(Refusal::WrongLength);
-    };
-    clear_all(image, 9 * size + 7);
-    Outcome::Accepted
-}
 
 // Every bucket in one pass. An empty backyard bucket has the bytes of an empty front bucket.
 pub fn clear_all(image: &mut [u8], buckets: usize)

@@ -1,5 +1,6 @@
 // One front bucket of an image: read whole and written in place.
 
+use crate::copy::copy_bytes;
 use crate::place::bucket;
 use crumbmap::Front;
 use edits::edit::insert_front;
@@ -92,15 +93,4 @@ pub fn write_front_at(image: &mut [u8], front: Front, bytes: &[u8])
     let at = 64 * f;
     let end = at + 64;
     copy_bytes(bytes, &mut image[at..end]);
-}
-
-fn copy_bytes(from: &[u8], to: &mut [u8])
-    requires { ⌜ length (now to) ≡ length (now from) ⌝ }
-    ensures { λ _. ⌜ now (to .exit) ≡ now (from .entry) ⌝ }
-{
-    let mut i = 0;
-    while i < from.len() {
-        to[i] = from[i];
-        i += 1;
-    }
 }

@@ -1,6 +1,7 @@
 // One lent image: where its buckets stand, and one bucket read, searched and written in place.
 
 pub mod back;
+pub mod copy;
 pub mod fresh;
 pub mod front;
 pub mod place;
@@ -13,12 +14,6 @@ pub struct Target {
     pub size: usize,
     pub front: Front,
     pub key: u32,
-}
-
-// The target of a hash, or that no image has this length.
-pub enum Located {
-    At(Target),
-    Wrong,
 }
 
 // An image's size B, or that no image has this length.

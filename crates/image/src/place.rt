@@ -1,7 +1,6 @@
 // Where a bucket of an image stands: the image's size, what a hash names in it, a backyard bucket's table number, and the 64 bytes of a bucket.
 // Whoever reads a bucket gets its bytes here.
 
-use crate::Located;
 use crate::Size;
 use crate::Target;
 use crumbmap::Backyard;
@@ -12,7 +11,7 @@ ghost use Prim.Native.Nat.{_+_, _*_, _<_, _≤_};
 ghost use Rattle.crumbmap.specs.Layouts.{layout1, fronts, backyards};
 ghost use lib.ListN.{length};
 ghost use Rattle.machine.specs.Images.{sizeOf, bucketAt};
-ghost use Rattle.image.specs.Steps.ImageReads.{sizing, LocatedIn, BackIn};
+ghost use Rattle.image.specs.Steps.ImageReads.{sizing, Locates, BackIn};
 
 // "A lent byte slice of 576 × B + 448 bytes, B from 1 to 65,536."
 pub fn size_of(len: usize) -> Size
@@ -32,18 +31,16 @@ pub fn size_of(len: usize) -> Size
     }
 }
 
-// What a hash names in an image of so many bytes.
-pub fn locate(len: usize, hash: u64) -> Located
-    ensures { λ r. ⌜ LocatedIn layout1 len hash r ⌝ }
+// What a hash names in an image of a size.
+pub fn target_of(size: usize, hash: u64) -> Target
+    requires { ⌜ (0 < size) × (size ≤ 65536) ⌝ }
+    ensures { λ r. ⌜ Locates layout1 size hash r ⌝ }
 {
-    let Size::Buckets(size) = size_of(len) else {
-        return Located::Wrong;
-    };
-    Located::At(Target {
+    Target {
         size,
         front: front_of(hash, size),
         key: key_of(hash),
-    })
+    }
 }
 
 // "The table number of backyard bucket j is F + j."

@@ -6,13 +6,13 @@ use mathlib.Core.List.{List}
 use mathlib.Core.Option.{none, some}
 use native.Mathlib.Nat.{max-eq-left, max-eq-right}
 use native.Mathlib.Omega.{arith, by-contra}
-use lib.ListN.{length}
+use lib.ListN.{length, take}
 use lib.Dec.{T, ltb}
 use borrow.Author.Tests.{lt-ltb, le-ltb}
 use Rattle.multiset.specs.Multisets.{added, removed, largest, ascending}
 use Rattle.multiset.proofs.MultisetLaws.{removed-added}
 use Rattle.multiset.proofs.OrderLaws.{largest-added, removed-added-other}
-use Rattle.crumbmap.specs.Layouts.{Layout, keys}
+use Rattle.crumbmap.specs.Layouts.{Layout, layout1, known, keys}
 use Rattle.crumbmap.specs.CrumbMap.{firstBucket, secondBucket}
 use Rattle.crumbmap.specs.Steps.Places.{Leads}
 use Rattle.crumbmap.specs.declared.Overflow.{Overflow}
@@ -20,15 +20,25 @@ use Rattle.buckets.specs.Buckets.{Fits64}
 use Rattle.machine.specs.Results.{refused}
 use Rattle.machine.specs.Images.{inFront, inBack, putFront, putBack}
 use Rattle.machine.specs.Machine.{backyard, changed, taker, takeIn, insertAt}
+use Rattle.machine.specs.Calls as M
 use Rattle.machine.proofs.Members.{inBack-choice}
 use Rattle.machine.proofs.StayLaws.{top-range}
+use Rattle.form.specs.Tails.{body, slots, raised}
+use Rattle.form.specs.Calls.{changedBy, insertOf}
 use Rattle.answers.specs.Answers.{refusal}
 use Rattle.answers.specs.declared.Refusal.{Refusal}
-use Rattle.image.specs.Steps.ImageReads.{FrontRead, FrontFull, FrontJoin, BothRead, Reads}
+use Rattle.answers.specs.declared.Refusal.the-variants.{Miscounted}
+use Rattle.answers.proofs.ChangeLaws.{changes, change-refused}
+use Rattle.image.specs.Steps.ImageReads.{Locates, FrontRead, FrontFull, FrontJoin, BothRead, Reads}
 use Rattle.image.specs.declared.Target.{Target}
 use Rattle.image.specs.declared.BackReading.{BackReading}
 use Rattle.image.proofs.ImageReadLaws.{both-accepts, both-read, largest-key}
-use Rattle.insertion.specs.Steps.Insertions.{FullAt, overflowAt, spilled, Spills, Plans}
+use Rattle.tails.specs.Steps.Openings.{Opens, headerOf}
+use Rattle.tails.specs.Steps.Changing.{within, adjusted}
+use Rattle.tails.specs.declared.Opened.{Opened}
+use Rattle.tails.proofs.OpenLaws.{entered}
+use Rattle.tails.proofs.CallLaws.{hash-call}
+use Rattle.insertion.specs.Steps.Insertions.{InsertsAt, roomless, FullAt, overflowAt, spilled, Spills, Plans}
 use Rattle.insertion.specs.declared.Spilling.{Spilling}
 use Rattle.insertion.specs.declared.InsertPlan.{InsertPlan}
 use Rattle.insertion.specs.declared.InsertPlan.the-variants as P
@@ -151,3 +161,32 @@ module _ (L : Layout) (t : Target) (img : List ℕ) {r : InsertPlan} (said : Pla
 
   pub plan-spills : {s : Spilling} → r ≡ P.Spills s → Spills L t s img
   plan-spills e = rw e at said
+
+-- the refusal of a plan for which the total has no room
+pub plan-roomless : (L : Layout) (t : Target) (img : List ℕ) (r : InsertPlan) → Plans L t img r → InsertsAt L t false img (roomless r) img
+unfolding within
+plan-roomless L t img (P.Refused why) said = changes (rw said) (change-refused why img)
+plan-roomless L t img (P.Joins slot) said = changes (rw (insert-short t img (said .read) (said .room))) (change-refused Miscounted img)
+plan-roomless L t img (P.Spills s) said = changes (rw (said .insert)) (change-refused Miscounted img)
+
+-- ---- on an image that was opened, by the insert of its body
+
+module _ {o : Opened} {img : List ℕ} (s : Opens o img) (k : ℕ) where
+  pub insert-entered : insertOf known img k ≡ changedBy (headerOf (o .size) (o .total) (o .changes)) (M.insertOf layout1 (body img) k)
+      (raised layout1 (o .size) (record { total = o .total; changes = o .changes }))
+  unfolding insertOf
+  insert-entered = entered (λ h. changedBy h (M.insertOf (h .layout) (body img) k) (raised (h .layout) (h .size) (h .tail))) s
+
+  pub insert-opened : {t : Target} → Locates layout1 (o .size) k t
+      → insertOf known img k
+      ≡ changedBy (headerOf (o .size) (o .total) (o .changes)) (insertAt layout1 (t .size) (t .front .0) (t .key) (take (o .end) img))
+      (raised layout1 (o .size) (record { total = o .total; changes = o .changes }))
+  unfolding M.insertOf
+  insert-opened l = insert-entered ∙ rw (hash-call s l (λ B f x b. insertAt layout1 B f x b))
+
+-- the room that the total has for one more
+pub raised-room : (B total changes : ℕ) {most : ℕ} → most ≡ slots layout1 B
+    → raised layout1 B (record { total = total; changes = changes })
+    ≡ adjusted (ltb total most) (record { total = total + 1; changes = changes + 1 })
+unfolding raised
+raised-room B total changes e = rw e

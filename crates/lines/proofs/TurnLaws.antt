@@ -8,9 +8,11 @@ use native.Mathlib.Omega.{arith}
 use native.Mathlib.Numerals.{add-one}
 use lib.ListN.{length, take, drop, getD}
 use lib.Seq.{take-add, take-length, take-nil, take-suc, take-append-seam}
-use Rattle.crumbmap.specs.Layouts.{layout1}
+use Rattle.crumbmap.specs.Layouts.{known}
 use Rattle.machine.specs.Images.{sizeOf, lengthOf}
-use Rattle.machine.specs.Calls.{freshOf, written}
+use Rattle.machine.specs.Calls.{written}
+use Rattle.form.specs.Calls.{freshOf}
+use Rattle.form.proofs.TailLaws.{length-body}
 use Rattle.text.specs.Texts.{over}
 use Rattle.frame.specs.Frames.{frameOf, textOf, imageAfter, fit, Answers}
 use Rattle.frame.specs.declared.Frame.{Frame}
@@ -79,11 +81,11 @@ whole {ps} {text} {img} {held} {img′} {out} {n} r e =
 -- ---- what the functions give
 
 -- "a fresh image with B = 3"
-pub started : (old new : List ℕ) → length old ≡ 2176 → new ≡ written (freshOf layout1 old) old → new ≡ startImage
+pub started : (old new : List ℕ) → length old ≡ 2240 → new ≡ written (freshOf known 1 old) old → new ≡ startImage
 unfolding freshOf sizeOf lengthOf
-started old new l e = e ∙ rw l
+started old new l e = e ∙ rw (length-body old, l)
 
-pub replied : (input old out new printed : List ℕ) (n : ℕ) → length old ≡ 2176 → length out ≡ 29397 → Answers input old out (Text n) new printed
+pub replied : (input old out new printed : List ℕ) (n : ℕ) → length old ≡ 2240 → length out ≡ 29397 → Answers input old out (Text n) new printed
     → Replies input old n new printed
 unfolding over
 replied input old out new printed n h l a =
@@ -98,7 +100,7 @@ replied input old out new printed n h l a =
     }
 
 -- image and output fit
-pub fits : (input old out new printed : List ℕ) → length old ≡ 2176 → length out ≡ 29397 → Answers input old out Unfit new printed → ⊥
+pub fits : (input old out new printed : List ℕ) → length old ≡ 2240 → length out ≡ 29397 → Answers input old out Unfit new printed → ⊥
 fits input old out new printed h l a =
     let c : Unfit ≡ Text (length (textOf (frameOf input) old)) = rw (fit-both old out h (omega arith)) at (a .count) in
     let z : _≡_ {A = ℕ} 0 1 = cc in

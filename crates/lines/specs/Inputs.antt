@@ -5,6 +5,7 @@ use mathlib.Core.List.{List, [], _∷_, _++_, map}
 use lib.Dec.{eqb}
 use Rattle.crumbmap.specs.Layouts.{layout1}
 use Rattle.machine.specs.Images.{emptyImage}
+use Rattle.form.specs.Tails.{tailBytes, started}
 use Rattle.frame.specs.Frames.{frameOf, textOf, imageAfter}
 use Rattle.frame.specs.declared.Frame.{Frame}
 
@@ -40,7 +41,7 @@ imageOfFrames (f ∷ fs) img = imageOfFrames fs (imageAfter f img)
 
 -- "a fresh image with B = 3"
 abbrev pub startImage : List ℕ
-startImage = emptyImage layout1 3
+startImage = emptyImage layout1 3 ++ tailBytes 1 (started 0)
 
 -- what the program prints for an input
 unfoldable pub outputOf : List ℕ → List ℕ

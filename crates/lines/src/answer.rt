@@ -9,7 +9,7 @@ ghost use Rattle.lines.specs.Steps.Turns.{Room, Replies, Ends};
 
 // A line without its newline; how many bytes of text stand in `out`.
 pub(crate) fn answer(image: &mut [u8], line: &[u8], out: &mut [u8]) -> usize
-    requires { ⌜ (length (now image) ≡ 2176) × (length (now out) ≡ 29397) ⌝ }
+    requires { ⌜ (length (now image) ≡ 2240) × (length (now out) ≡ 29397) ⌝ }
     ensures { λ n. ⌜ Replies (now (line .entry)) (now (image .entry)) n (now (image .exit)) (now (out .exit)) ⌝ }
 {
     let Printed::Text(n) = frame(image, line, out) else {

@@ -12,7 +12,7 @@ ghost use Rattle.lines.specs.Steps.Turns.{Room, Steps};
 
 // "A fresh image with B = 3."
 pub fn start(image: &mut [u8])
-    requires { ⌜ length (now image) ≡ 2176 ⌝ }
+    requires { ⌜ length (now image) ≡ 2240 ⌝ }
     ensures { λ _. ⌜ now (image .exit) ≡ startImage ⌝ }
 {
     fresh(image);

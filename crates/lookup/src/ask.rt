@@ -9,37 +9,41 @@ use crumbmap::Overflow;
 use crumbmap::layout::FRONT_SLOTS;
 use crumbmap::map::first_of;
 use crumbmap::map::second_of;
-use image::Located;
 use image::Target;
 use image::back::read_back_at;
 use image::front::read_front_at;
 use image::place::back_bucket;
 use image::place::bucket;
-use image::place::locate;
 use image::place::table_of;
+use image::place::target_of;
 use minifilter::Reading;
 use search::Search;
 use search::find::find_back;
 use search::find::find_front;
 use search::find::largest_front;
+use tails::Opening;
+use tails::open::open_image;
 ghost use mathlib.Core.Path.{_≡_};
 ghost use Prim.Native.Nat.{_+_, _*_, _<_};
-ghost use Rattle.crumbmap.specs.Layouts.{layout1, keys};
+ghost use Rattle.crumbmap.specs.Layouts.{layout1, known, keys};
 ghost use Rattle.machine.specs.Images.{backAt};
 ghost use Rattle.machine.specs.Machine.{askAt, denied};
-ghost use Rattle.machine.specs.Calls.{askOf};
+ghost use Rattle.form.specs.Calls.{askOf};
 ghost use Rattle.answers.specs.Answers.{askedOf};
 ghost use Rattle.image.specs.Steps.ImageReads.{Placed, BackIn, Exceeds};
 ghost use Rattle.lookup.specs.Steps.Lookups.{soughtIn};
 
 // Where the fingerprint of a hash stands and how often there, and how many buckets were read to tell.
 pub fn ask(image: &[u8], hash: u64) -> AskResult
-    ensures { λ r. ⌜ askedOf r ≡ askOf layout1 (now (image .entry)) hash ⌝ }
+    ensures { λ r. ⌜ askedOf r ≡ askOf known (now (image .entry)) hash ⌝ }
 {
-    let Located::At(target) = locate(image.len(), hash) else {
-        return AskResult::Refused(Refusal::WrongLength);
-    };
-    ask_at(image, target)
+    match open_image(image) {
+        Opening::Refused(why) => AskResult::Refused(why),
+        Opening::At(opened) => {
+            let end = opened.end;
+            ask_at(&image[..end], target_of(opened.size, hash))
+        }
+    }
 }
 
 // What a hash names: the front bucket, then those behind it.

@@ -6,33 +6,37 @@ use answers::Refusal;
 use crumbmap::layout::FRONT_SLOTS;
 use crumbmap::map::ways_of;
 use image::BackyardReading;
-use image::Located;
 use image::Target;
 use image::back::find_at;
 use image::back::read_backyard;
 use image::front::read_front_at;
 use image::place::bucket;
-use image::place::locate;
+use image::place::target_of;
 use minifilter::Reading;
 use search::find::copies_of;
 use search::find::find_front;
 use search::find::largest_front;
+use tails::Opening;
+use tails::open::open_image;
 ghost use mathlib.Core.Path.{_≡_};
-ghost use Rattle.crumbmap.specs.Layouts.{layout1};
+ghost use Rattle.crumbmap.specs.Layouts.{layout1, known};
 ghost use Rattle.machine.specs.Machine.{countAt};
-ghost use Rattle.machine.specs.Calls.{countOf};
+ghost use Rattle.form.specs.Calls.{countOf};
 ghost use Rattle.answers.specs.Answers.{countedOf};
 ghost use Rattle.image.specs.Steps.ImageReads.{Placed};
 ghost use Rattle.lookup.specs.Steps.Lookups.{Reaches};
 
 // How many copies of a hash's fingerprint there are, and how many buckets were read to tell.
 pub fn count(image: &[u8], hash: u64) -> CountResult
-    ensures { λ r. ⌜ countedOf r ≡ countOf layout1 (now (image .entry)) hash ⌝ }
+    ensures { λ r. ⌜ countedOf r ≡ countOf known (now (image .entry)) hash ⌝ }
 {
-    let Located::At(target) = locate(image.len(), hash) else {
-        return CountResult::Refused(Refusal::WrongLength);
-    };
-    count_at(image, target)
+    match open_image(image) {
+        Opening::Refused(why) => CountResult::Refused(why),
+        Opening::At(opened) => {
+            let end = opened.end;
+            count_at(&image[..end], target_of(opened.size, hash))
+        }
+    }
 }
 
 // What a hash names: the front bucket, then those behind it.

@@ -1,40 +1,62 @@
--- The steps of a merge, for any layout: one front bucket after the other into a fresh target, and what ends it before or on the way.
--- Main results: `fronts-start`, `fronts-merging`, `fronts-on`, `fronts-full` and `fronts-end`; `fill-accepted`, `fill-full`; `check-refuses`.
+-- The steps of a merge: the tails of its sources; for any layout, one front bucket after the other into a fresh target, and what ends the merge
+-- before or on the way. Main results: `told-of`; `fronts-start`, `fronts-merging`, `fronts-on`, `fronts-full` and `fronts-end`; `merged-left`,
+-- `fill-accepted`, `fill-full`; `check-refuses`.
 use mathlib.Core.Path.{_≡_, refl, sym, _∙_}
 use Prim.Native.Nat.{ℕ, suc, _+_, _-_, _≤_, _<_}
-use mathlib.Core.Bool.{Bool, true, false}
-use mathlib.Core.List.{List, []}
+use mathlib.Core.Bool.{Bool, true, false, cond}
+use mathlib.Core.List.{List, [], _++_}
 use mathlib.Core.Option.{Option, none, some}
 use native.Mathlib.Numerals.{add-one}
 use native.Mathlib.Nat.{sub-zero}
 use native.Mathlib.Omega.{arith}
-use lib.ListN.{length, getD}
+use lib.ListN.{length, take, drop, getD, length-append, length-drop}
 use lib.Dec.{eqb}
 use Rattle.multiset.specs.Multisets.{Below}
 use Rattle.multiset.proofs.MultisetLaws.{copies-none}
-use Rattle.crumbmap.specs.Layouts.{Layout, keys, fronts, backyards}
+use Rattle.crumbmap.specs.Layouts.{Layout, layout1, Numbering, known, keys, fronts, backyards}
 use Rattle.buckets.specs.Buckets.{Fits64}
 use Rattle.machine.specs.Results.{Result, accepted, refused, andThen}
 use Rattle.machine.specs.Images.{inFront, emptyImage}
 use Rattle.machine.specs.Machine.{membersAt}
 use Rattle.machine.specs.Merges.{insertAll, mergeFrom}
-use Rattle.machine.specs.Calls.{freshOf, written}
+use Rattle.machine.specs.Calls.{written}
 use Rattle.machine.specs.Checks.{unless, unsoundFront, unsoundBack, early, checkSized}
 use Rattle.machine.proofs.AcceptedLaws.{andThen-andThen, never-refused}
 use Rattle.machine.proofs.Invariant.{Good, total}
 use Rattle.machine.proofs.MergeLaws.{empty-good, empty-total, insertAll-good}
-use Rattle.answers.specs.Answers.{numbered, outcomeOf, Fills}
+use Rattle.form.specs.Tails.{Header, body, markOf, members, headed}
+use Rattle.form.specs.Calls.{freshOf, checkedBy, mergedBy, mergeSizedOf, targetOf}
+use Rattle.form.proofs.TailLaws.{length-body, headed-parts}
+use Rattle.form.proofs.MoveLaws.{checked-parts}
+use Rattle.answers.specs.Answers.{numbered, refusal, Leaves}
 use Rattle.answers.specs.declared.Refusal.{Refusal}
+use Rattle.answers.specs.declared.Refusal.the-variants.{Full}
 use Rattle.answers.specs.declared.Outcome.{Outcome}
 use Rattle.answers.specs.declared.Outcome.the-variants as D
 use Rattle.image.specs.Steps.ImageReads.{Whole}
-use Rattle.image.proofs.ImageReadLaws.{whole-sized}
+use Rattle.image.proofs.ImageReadLaws.{whole-sized, whole-alike}
+use Rattle.tails.specs.Steps.Openings.{headerOf}
+use Rattle.tails.proofs.PartLaws.{body-part}
 use Rattle.listing.specs.Steps.Listings.{membersIn}
 use Rattle.listing.proofs.ListingLaws.{members-at, members-range}
 use Rattle.spill.specs.Steps.Settling.{reached}
 use Rattle.spill.proofs.SpillSteps.{reached-all, reached-full, then-on, then-full}
 use Rattle.joining.specs.Steps.Joins.{Checked, Sources, Merging, joined, bothInserted}
 use Rattle.joining.proofs.CheckedImages.{Known, checked-of, members-known}
+use Rattle.merging.specs.Steps.Targets.{Told, leftOf, anew, freshForm, bothMerged, MergesInto}
+
+-- ---- the tails of the sources
+
+-- the bodies of two images of one size end at the same byte
+pub same-end : {B : ℕ} (a b : List ℕ) → Whole B (body a) → Whole B (body b) → length a - 64 ≡ length b - 64
+same-end a b p q = sym (length-body a) ∙ p .long ∙ sym (q .long) ∙ length-body b
+
+module _ (B : ℕ) (img : List ℕ) {total changes : ℕ} (tail : headed known B img ≡ accepted (headerOf B total changes)) where
+  pub told-of : {end : ℕ} → end ≡ length img - 64 → Whole B (body img) → Told layout1 B total (take end img)
+  told-of e w = record { whole = rw (body-part img e) w; most = headed-parts known B img _ tail .most }
+
+  pub mark-of : markOf img ≡ 1
+  mark-of = sym (headed-parts known B img _ tail .number)
 
 -- ---- from front bucket to front bucket
 
@@ -125,45 +147,76 @@ module _ {L : Layout} {B : ℕ} {a b old : List ℕ} {f : ℕ} {target : List �
           rest = left ∙ then-on t now (mergeFrom L B (fronts B - (f + 1)) (f + 1) a b) told e;
         }
 
--- ---- what is filled
+-- ---- what is left of the target
 
--- what a fresh makes of a target
-pub fresh-whole : (L : Layout) {B : ℕ} {img : List ℕ} → Whole B img → written (freshOf L img) img ≡ emptyImage L B
-unfolding freshOf
-fresh-whole L w = rw (whole-sized w)
+-- by the number of a layout
+module _ (layouts : Numbering) {L : Layout} (n : ℕ) (there : layouts n ≡ some L) where
+  -- what a fresh makes of an image
+  pub fresh-whole : {B : ℕ} (img : List ℕ) → Whole B (body img) → written (freshOf layouts n img) img ≡ freshForm L n B
+  unfolding freshOf
+  fresh-whole img w = rw (whole-sized w, there)
 
--- the target took all, or was full on the way
-module _ (L : Layout) {m : Result (List ℕ)} {t : Bool} {now old : List ℕ} (told : reached t now ≡ m) where
-  pub fill-accepted : t ≡ true → Fills L m old D.Accepted now
-  fill-accepted e = rw (reached-all t now told e) record { answer = refl; bytes = refl }
+  -- the target of a merge, by the layout of the first source and by the target's size
+  pub target-left : (B : ℕ) (a old : List ℕ) → markOf a ≡ n → Whole B (body old) → (m : Result (List ℕ))
+      → targetOf layouts a m old ≡ leftOf (freshForm L n B) m old
+  target-left B a old e w (accepted img) = refl
+  target-left B a old e w (refused k i) = rw (e, fresh-whole old w)
 
-  pub fill-full : t ≡ false → {B : ℕ} {r : Outcome} {new : List ℕ} → Whole B old → Whole B now → Fills L (refused 4 0) now r new → Fills L m old r new
-  fill-full e p q f = rw (reached-full t now told e) record { answer = f .answer; bytes = f .bytes ∙ fresh-whole L q ∙ sym (fresh-whole L p) }
+-- a merge of two images whose tails were read is that of their bodies
+pub merged-left : (B : ℕ) (a b old : List ℕ) {t s u v : ℕ} {r : Outcome} {new : List ℕ} → headed known B a ≡ accepted (headerOf B t u)
+    → headed known B b ≡ accepted (headerOf B s v) → Whole B (body old)
+    → MergesInto layout1 1 B (mergedBy (headerOf B t 0) (headerOf B s 0) (body a) (body b)) old r new
+    → Leaves (mergeSizedOf known B a b) (targetOf known a (mergeSizedOf known B a b) old) r new
+unfolding mergeSizedOf mergedBy checkedBy
+merged-left B a b old p q w m = rw (target-left known 1 refl B a old (mark-of B a p) w (mergeSizedOf known B a b), p, q) m
+
+-- a target has the size that it had, once its body was written
+pub still-whole : {B : ℕ} (old now : List ℕ) → Whole B (body old) → length now ≡ length old - 64 → Whole B (body (now ++ drop (length old - 64) old))
+still-whole old now w e =
+    let end = length old - 64 in
+    whole-alike (omega (arith, length-body (now ++ drop end old), length-append now (drop end old), length-drop end old, length-body old)) w
+
+-- the body took all, or was full on the way
+module _ (L : Layout) (n B total : ℕ) (a b old : List ℕ) (t : Bool) (now : List ℕ)
+    (told : reached t now ≡ mergeFrom L B (fronts B) 0 a b (emptyImage L B)) where
+  pub fill-accepted : t ≡ true → {new : List ℕ} → new ≡ anew L n total now → MergesInto L n B (bothMerged L n B total a b) old D.Accepted new
+  fill-accepted e p = rw (reached-all t now told e) record { answer = refl; bytes = p }
+
+  pub fill-full : t ≡ false → {new : List ℕ} → new ≡ freshForm L n B → MergesInto L n B (bothMerged L n B total a b) old (D.Refused Full) new
+  fill-full e p = rw (reached-full t now told e) record { answer = refl; bytes = p }
 
 -- ---- what check refuses
 
--- check's numbers are 3 and 8
-unless-number : (o : Option ℕ) (m : ℕ) (k : Result (Unit {0})) → eqb m 4 ≡ false → ((n i : ℕ) → k ≡ refused n i → eqb n 4 ≡ false)
-    → (n i : ℕ) → unless o m k ≡ refused n i → eqb n 4 ≡ false
-unless-number none m k p q n i e = q n i e
-unless-number (some j) m k p q n i e = let s : m ≡ n = cc in rw (← s) p
+-- with another number than 4: 3, 8 and 12 are
+abbrev NotFull : Result (Unit {0}) → Type 0
+NotFull r = (n i : ℕ) → r ≡ refused n i → eqb n 4 ≡ false
 
-check-number : (L : Layout) (B : ℕ) (img : List ℕ) (n i : ℕ) → checkSized L B img ≡ refused n i → eqb n 4 ≡ false
-unfolding checkSized
-check-number L B img =
-    unless-number (unsoundFront L (fronts B) 0 img) 3 _ refl
-    (unless-number (unsoundBack L B (backyards B) 0 img) 3 _ refl
-    (unless-number (early L B (backyards B) 0 img) 8 (accepted tt) refl (λ n i e. absurd (never-refused e))))
+unless-found : (o : Option ℕ) (m : ℕ) (k : Result (Unit {0})) → eqb m 4 ≡ false → NotFull k → NotFull (unless o m k)
+unless-found none m k p q n i e = q n i e
+unless-found (some j) m k p q n i e = let s : m ≡ n = cc in rw (← s) p
 
--- what it said of an image
-module _ (L : Layout) (B : ℕ) (img : List ℕ) {r : Outcome} (said : outcomeOf r ≡ checkSized L B img) where
-  -- a refused check ends the merge, and the target is kept
-  pub check-refuses : (old : List ℕ) {why : Refusal} (k : Unit {0} → Result (List ℕ)) → r ≡ D.Refused why
-      → Fills L (andThen (checkSized L B img) k) old (D.Refused why) old
-  check-refuses old {why} k e =
-      let w = numbered why in
-      let s : checkSized L B img ≡ refused (w .0) (w .1) = sym (rw e at said) in
-      rw s record { answer = refl; bytes = rw (check-number L B img (w .0) (w .1) s) }
+then-tested : (r : Result (Unit {0})) (t : Bool) → NotFull r → NotFull (andThen r (λ _. cond t (accepted tt) (refused 12 0)))
+then-tested (accepted u) true p n i e = absurd (never-refused e)
+then-tested (accepted u) false p n i e = let s : 12 ≡ n = cc in rw (← s)
+then-tested (refused m j) t p n i e = p n i e
 
-  pub check-passes : r ≡ D.Accepted → Whole B img → Checked L B img
-  check-passes e w = record { size = w; passed = sym said ∙ rw e }
+check-number : (h : Header) (b : List ℕ) → NotFull (checkedBy h b)
+unfolding checkedBy checkSized
+check-number h b =
+    let L = h .layout in
+    let B = h .size in
+    then-tested _ (eqb (h .tail .total) (members L B b))
+    (unless-found (unsoundFront L (fronts B) 0 b) 3 _ refl
+    (unless-found (unsoundBack L B (backyards B) 0 b) 3 _ refl
+    (unless-found (early L B (backyards B) 0 b) 8 (accepted tt) refl (λ n i e. absurd (never-refused e)))))
+
+-- a refused check ends the merge, and the target is kept
+pub check-refuses : (h : Header) (b fresh old : List ℕ) {why : Refusal} (k : Unit {0} → Result (List ℕ)) → checkedBy h b ≡ refusal why
+    → Leaves (andThen (checkedBy h b) k) (leftOf fresh (andThen (checkedBy h b) k) old) (D.Refused why) old
+check-refuses h b fresh old {why} k e =
+    let w = numbered why in
+    rw e record { answer = refl; bytes = rw (check-number h b (w .0) (w .1) e) }
+
+-- a body that passes was checked
+pub checked-body : (h : Header) (b : List ℕ) → checkedBy h b ≡ accepted tt → Whole (h .size) b → Checked (h .layout) (h .size) b
+checked-body h b e w = record { size = w; passed = checked-parts h b e .sound }

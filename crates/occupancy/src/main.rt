@@ -8,15 +8,15 @@ use libc::STDIN_FILENO;
 use libc::STDOUT_FILENO;
 use printing::PAGE_BYTES;
 
-// Images have B ≤ 113 here. An input with a byte more than the largest has a length that no image has.
+// Images have B ≤ 112 here, 65,024 bytes. An input with a byte more than the largest has a length that no image has.
 fn main() {
-    let mut image = [0u8; 65537];
+    let mut image = [0u8; 65025];
     let n = io::read_full(STDIN_FILENO, &mut image);
     let mut out = [0u8; PAGE_BYTES];
     print_pages(&image[..n], &mut out);
 }
 
-// Page after page, until one is refused. An image with B = 113 has 38 of them.
+// Page after page, until one is refused. An image with B = 112 has 38 of them.
 fn print_pages(image: &[u8], out: &mut [u8]) {
     let mut page = 0;
     while page < 38 {

@@ -7,11 +7,11 @@ use answers::Refusal;
 use crumbmap::Front;
 use crumbmap::fingerprint::number_of;
 use crumbmap::layout::MOST_MEMBERS;
-use image::Size;
-use image::place::size_of;
 use listing::MemberCount;
 use listing::members::count_members;
 use listing::members::list_members;
+use tails::Opening;
+use tails::open::open_image;
 ghost use mathlib.Core.Path.{_≡_};
 ghost use Prim.Native.Nat.{_-_, _<_, _≤_};
 ghost use mathlib.Core.List.{_++_, map};
@@ -20,6 +20,7 @@ ghost use Rattle.multiset.specs.Multisets.{Below};
 ghost use Rattle.crumbmap.specs.Layouts.{layout1, keys as allKeys, fronts};
 ghost use Rattle.crumbmap.specs.Fingerprints.{fingerprint};
 ghost use Rattle.machine.specs.Pages.{pageFrom};
+ghost use Rattle.machine.specs.Calls.{pageOf};
 ghost use Rattle.answers.specs.Answers.{Pages, Writes};
 ghost use Rattle.image.specs.Steps.ImageReads.{Whole};
 ghost use Rattle.image.specs.Steps.Listed.{Listed};
@@ -28,11 +29,22 @@ ghost use Rattle.paging.specs.Steps.PageRuns.{entriesIn, Ran, EndSays};
 
 // The members from front bucket `start` on into `out`: how many, and the next bucket.
 pub fn page(image: &[u8], start: usize, out: &mut [u64]) -> PageResult
-    ensures { λ r. ⌜ Pages layout1 (now (image .entry)) start (now (out .entry)) r (now (out .exit)) ⌝ }
+    ensures { λ r. ⌜ Pages (now (image .entry)) start (now (out .entry)) r (now (out .exit)) ⌝ }
 {
-    let Size::Buckets(size) = size_of(image.len()) else {
-        return PageResult::Refused(Refusal::WrongLength);
-    };
+    match open_image(image) {
+        Opening::Refused(why) => PageResult::Refused(why),
+        Opening::At(opened) => {
+            let end = opened.end;
+            page_sized(&image[..end], opened.size, start, out)
+        }
+    }
+}
+
+// The same on a body of a size.
+fn page_sized(image: &[u8], size: usize, start: usize, out: &mut [u64]) -> PageResult
+    requires { ⌜ Whole size (now image) ⌝ }
+    ensures { λ r. ⌜ Writes (pageOf layout1 (now (image .entry)) start (length (now (out .entry)))) (now (out .entry)) r (now (out .exit)) ⌝ }
+{
     if 8 * size < start {
         return PageResult::Refused(Refusal::PastEnd);
     }

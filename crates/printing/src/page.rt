@@ -10,18 +10,18 @@ use answers::Refusal;
 use crumbmap::Front;
 use crumbmap::layout::FRONT_SLOTS;
 use crumbmap::layout::MOST_MEMBERS;
-use image::Size;
 use image::place::bucket;
-use image::place::size_of;
 use listing::members::count_overflow;
 use paging::RunEnd;
 use paging::page::measure;
 use search::find::count_front;
+use tails::Opening;
+use tails::open::open_image;
 ghost use mathlib.Core.Path.{_≡_};
 ghost use Prim.Native.Nat.{_+_, _≤_, _<_, min};
 ghost use lib.ListN.{length};
 ghost use Rattle.crumbmap.specs.Layouts.{layout1, fronts};
-ghost use Rattle.machine.specs.OccupancyPages.{pageLines, lineBytes, pageBytes, printFrom, lineWith, lineOf, linesOf};
+ghost use Rattle.machine.specs.OccupancyPages.{pageLines, lineBytes, pageBytes, occupancyOf, printFrom, lineWith, lineOf, linesOf};
 ghost use Rattle.answers.specs.Answers.{Prints, Occupancies};
 ghost use Rattle.text.specs.Texts.{over};
 ghost use Rattle.image.specs.Steps.ImageReads.{Whole};
@@ -30,11 +30,22 @@ ghost use Rattle.printing.specs.Steps.Counts.{manyIn, LinesRead};
 
 // Page `page` of an image, from front bucket 24 × page on, into the start of `out`.
 pub fn occupancy(image: &[u8], page: u64, out: &mut [u8]) -> Outcome
-    ensures { λ r. ⌜ Occupancies layout1 (now (image .entry)) page (now (out .entry)) r (now (out .exit)) ⌝ }
+    ensures { λ r. ⌜ Occupancies (now (image .entry)) page (now (out .entry)) r (now (out .exit)) ⌝ }
 {
-    let Size::Buckets(size) = size_of(image.len()) else {
-        return Outcome::Refused(Refusal::WrongLength);
-    };
+    match open_image(image) {
+        Opening::Refused(why) => Outcome::Refused(why),
+        Opening::At(opened) => {
+            let end = opened.end;
+            print_sized(&image[..end], opened.size, page, out)
+        }
+    }
+}
+
+// The same on a body of a size.
+fn print_sized(image: &[u8], size: usize, page: u64, out: &mut [u8]) -> Outcome
+    requires { ⌜ Whole size (now image) ⌝ }
+    ensures { λ r. ⌜ Prints (occupancyOf layout1 (now (image .entry)) page (length (now (out .entry)))) (now (out .entry)) r (now (out .exit)) ⌝ }
+{
     // The last page by a division: 24 × page may exceed 64 bits.
     let last = (8 * size - 1) / LINES;
     if (last as u64) < page {

@@ -1,21 +1,24 @@
-// A stored line that keeps the lengths of the images: a call on one image or three, a row of asks, or bytes poked.
+// A stored line that keeps the lengths of the images: a call on one image, two or three, a row of asks, or bytes poked.
 
-use crate::Outcome;
-use crate::row::row;
 use capi::bcf_ask;
+use capi::bcf_attach;
 use capi::bcf_check;
 use capi::bcf_count;
 use capi::bcf_delete;
+use capi::bcf_detach;
 use capi::bcf_fresh;
 use capi::bcf_insert;
 use capi::bcf_merge;
 use capi::bcf_occupancy;
 use capi::bcf_page;
+use capi::bcf_tail;
+use stored::Outcome;
 use stored::images::poke;
 use stored::sum::of_image;
 use stored::sum::of_merge;
 use stored::sum::of_output;
 use stored::sum::of_page;
+use trio::row;
 
 // A line on one image.
 pub fn within(operation: u64, image: &mut [u8], p: u64, q: usize, out: &mut [u64]) -> Outcome {
@@ -23,8 +26,8 @@ pub fn within(operation: u64, image: &mut [u8], p: u64, q: usize, out: &mut [u64
         poke(image, q, p);
         return Outcome::Nothing;
     }
-    if operation == 5 {
-        return page(image, p, out, q);
+    if operation == 5 || operation == 15 {
+        return numbers(operation, image, p, out, q);
     }
     if operation == 11 {
         return row(image, p, q);
@@ -57,15 +60,23 @@ fn answer_of(operation: u64, image: &mut [u8], hash: u64) -> u64 {
     }
 }
 
-// A page into the first q entries of `out`, if there are so many.
-fn page(image: &[u8], from: u64, out: &mut [u64], q: usize) -> Outcome {
+// A page or a tail into the first q entries of `out`, if there are so many.
+fn numbers(operation: u64, image: &[u8], from: u64, out: &mut [u64], q: usize) -> Outcome {
     if out.len() < q {
         return Outcome::Nothing;
     }
     let out = &mut out[0..q];
     fill(out);
-    let answer = bcf_page(image, from, out);
-    Outcome::Said(5, answer, of_page(image, out))
+    let answer = numbers_of(operation, image, from, out);
+    Outcome::Said(operation, answer, of_page(image, out))
+}
+
+// What it gives.
+fn numbers_of(operation: u64, image: &[u8], from: u64, out: &mut [u64]) -> u64 {
+    match operation {
+        5 => bcf_page(image, from, out),
+        _ => bcf_tail(image, out),
+    }
 }
 
 // Entry i becomes 2^64 - 1 - i.
@@ -91,4 +102,16 @@ fn occupancy(image: &[u8], number: u64, out: &mut [u8], q: usize) -> Outcome {
 pub fn merge<'a>(first: &'a [u8], second: &'a [u8], target: &mut [u8]) -> Outcome {
     let answer = bcf_merge(first, second, target);
     Outcome::Said(8, answer, of_merge(first, second, target))
+}
+
+// An image of document 01's form into one with a tail.
+pub fn attach(old: &[u8], target: &mut [u8]) -> Outcome {
+    let answer = bcf_attach(old, target);
+    Outcome::Said(13, answer, of_output(old, target))
+}
+
+// An image without its tail into one of document 01's form.
+pub fn detach(image: &[u8], target: &mut [u8]) -> Outcome {
+    let answer = bcf_detach(image, target);
+    Outcome::Said(14, answer, of_output(image, target))
 }

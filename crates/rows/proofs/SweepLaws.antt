@@ -1,7 +1,7 @@
--- A row swept three times is the row of the machine, for any layout. Main results: each entry is ready in its turn (`first-ready`, `second-ready`,
--- `third-ready`), and what three sweeps leave (`all-swept`).
+-- A row swept three times is the row of an image with its tail, for any layout. Main results: each entry is ready in its turn (`first-ready`,
+-- `second-ready`, `third-ready`), and what three sweeps leave (`all-swept`).
 use mathlib.Core.Path.{_≡_, refl, sym, _∙_, ap, subst}
-use Prim.Native.Nat.{ℕ, _+_, _-_, _^_, max}
+use Prim.Native.Nat.{ℕ, _+_, _-_, max}
 use mathlib.Core.Bool.{Bool, true, false, cond}
 use mathlib.Core.List.{List, [], _∷_, map}
 use mathlib.Core.Option.{Option, none, some}
@@ -9,25 +9,27 @@ use native.Mathlib.Omega.{arith}
 use lib.ListN.{length}
 use lib.Dec.{eqb, ltb}
 use borrow.Author.Tests.{ltb-true, ltb-false, ne-eqb}
-use Rattle.multiset.specs.Multisets.{Below}
-use Rattle.crumbmap.specs.Layouts.{Layout}
+use Rattle.crumbmap.specs.Layouts.{Layout, Numbering}
 use Rattle.crumbmap.specs.Fingerprints.{frontOf, keyOf}
 use Rattle.buckets.specs.Buckets.{Fits64}
-use Rattle.machine.specs.Results.{Result, accepted, refused, andThen}
+use Rattle.machine.specs.Results.{Result, accepted, refused, andThen, number}
 use Rattle.machine.specs.Images.{sizeOf}
 use Rattle.machine.specs.Machine.{Asked, askAt}
-use Rattle.machine.specs.Rows.{Row, Group, descends, joined, groups, readsOf, asksOf, rowOf}
+use Rattle.machine.specs.Rows as R
+use Rattle.machine.specs.Rows.{Row, Group, descends, joined, groups, readsOf, asksOf}
 use Rattle.machine.proofs.AcceptedLaws.{never-refused}
 use Rattle.machine.proofs.RowLaws.{apart, alike, least, unopened, ask-at, ask-refused, row-answered, asks-split}
-use Rattle.answers.specs.Rows.{hashes, receivedOf, receivedAll, entriesOf, rowedOf, totalOf, Rows}
+use Rattle.form.specs.Tails.{Header, body, opened}
+use Rattle.form.specs.Calls.{rowOf}
+use Rattle.answers.specs.Rows.{hashes, receivedOf, receivedAll, entriesOf, totalOf}
 use Rattle.answers.specs.declared.Entry.{Entry}
-use Rattle.answers.specs.declared.RowResult.{RowResult}
 use Rattle.image.specs.Steps.ImageReads.{Whole}
 use Rattle.image.proofs.ImageReadLaws.{whole-of}
-use Rattle.grouping.specs.Steps.Grouping.{Bytes, held, fetched, sharing, descended, passed, advanced, tested, Known, told, turned, begun, opened, settled, resumed, resultOf}
+use Rattle.grouping.specs.Steps.Grouping.{Bytes, held, fetched, sharing, descended, passed, advanced, tested, Known, told, turned, startedAt, begun, settled, resumed, refusalOf, resultOf}
 use Rattle.grouping.specs.declared.State.{State}
-use Rattle.grouping.proofs.GroupLaws.{of-tested, known-opened, known-tested}
-use Rattle.rows.specs.Steps.Sweeps.{stateFrom, rowFrom, ReadyFrom, stateAfter, rowAfter, AllReady, fetchedState, fetchedRow, testedState, testedRow, toldState, toldRow}
+use Rattle.grouping.proofs.GroupLaws.{of-tested, known-started, known-tested}
+use Rattle.rows.specs.Steps.Sweeps.{stateFrom, rowFrom, ReadyFrom, stateAfter, rowAfter, AllReady, testedState, testedRow, toldState, toldRow}
+use Rattle.rows.proofs.FormRowLaws.{Only, tail-refused, row-unsized, row-opened, row-barred, row-accepted}
 
 -- ---- sums
 
@@ -53,6 +55,16 @@ either : {A : Type 0} (b : Bool) (x : A) → cond b x x ≡ x
 either true x = refl
 either false x = refl
 
+-- a refusal is no answer
+refusal-never : (s : State) {n : ℕ} → refusalOf s ≡ accepted n → ⊥
+refusal-never s e = go (eqb (s .number) 1) (eqb (s .number) 10) (eqb (s .number) 11) e
+  where
+    go : (b c d : Bool) {n : ℕ} → cond b (refused 1 0) (cond c (refused 10 0) (cond d (refused 11 0) (refused 3 (s .table)))) ≡ accepted n → ⊥
+    go true c d e = never-refused (sym e)
+    go false true d e = never-refused (sym e)
+    go false false true e = never-refused (sym e)
+    go false false false e = never-refused (sym e)
+
 -- ---- a sweep in each phase
 
 module _ (L : Layout) (img : List ℕ) where
@@ -65,9 +77,10 @@ module _ (L : Layout) (img : List ℕ) where
   runs s [] = s
   runs s (k ∷ ks) = runs (tested L img s k) ks
 
-  -- neither changes phase or size
-  fetches-keeps : (ks : List ℕ) (s : State) → (fetches s ks .phase ≡ s .phase) × (fetches s ks .size ≡ s .size)
-  fetches-keeps [] s = (refl, refl)
+  -- neither changes phase or size, nor does fetching change the number
+  fetches-keeps : (ks : List ℕ) (s : State)
+      → (fetches s ks .phase ≡ s .phase) × (fetches s ks .size ≡ s .size) × (fetches s ks .number ≡ s .number)
+  fetches-keeps [] s = (refl, refl, refl)
   fetches-keeps (k ∷ ks) s = fetches-keeps ks (fetched img s k)
 
   advanced-keeps : (s : State) (f : ℕ) (r : Result ℕ) → (advanced L img s f r .phase ≡ s .phase) × (advanced L img s f r .size ≡ s .size)
@@ -151,10 +164,6 @@ module _ (L : Layout) (img : List ℕ) where
 
   -- ---- what the test comes to
 
-  -- the refusal that a state tells of
-  abbrev refusalOf : State → Result ℕ
-  refusalOf s = cond (eqb (s .number) 1) (refused 1 0) (cond (eqb (s .number) 10) (refused 10 0) (refused 3 (s .table)))
-
   -- the total with the asks that are still to come: the open group stands before their groups
   abbrev totalled : State → List ℕ → List Asked → ℕ
   totalled s fs rs = s .total + (readsOf (joined (s .front) (s .reads) (groups fs rs)) - s .reads)
@@ -218,137 +227,163 @@ module _ (L : Layout) (img : List ℕ) where
         λ small. rw (telling s e) (told-ready es (p .3) s w),
       )
 
-  -- ---- three sweeps
+  -- ---- the sweeps of a row, from the states before them
 
   -- the first leaves the row as it is, and the test starts afresh
-  fetched-resumed : (s : State) → s .phase ≡ 0 → resumed s ≡ opened (some (s .size))
+  fetched-resumed : (s : State) → s .phase ≡ 0 → resumed s ≡ startedAt 1 (some (s .size)) (s .number)
   fetched-resumed s h = rw h
 
-  fetched-swept : (es : List Entry) (o : Option ℕ) → (resumed (stateAfter L img (begun o) es) ≡ opened o) × (rowAfter L img (begun o) es ≡ es)
-  fetched-swept es none = let p = all-passed es (begun none) in (ap resumed (p .0), p .1)
-  fetched-swept es (some B) =
-      let p = all-fetched es (begun (some B)) in
-      let k = fetches-keeps (hashes es) (begun (some B)) in
-      (ap resumed (p .0) ∙ fetched-resumed (fetches (begun (some B)) (hashes es)) (k .0) ∙ ap (λ (n : ℕ). opened (some n)) (k .1), p .1)
+  fetched-swept : (es : List Entry) (o : Option ℕ) (n : ℕ)
+      → (resumed (stateAfter L img (startedAt 0 o n) es) ≡ startedAt 1 o n) × (rowAfter L img (startedAt 0 o n) es ≡ es)
+  fetched-swept es none n = let p = all-passed es (startedAt 0 none n) in (ap resumed (p .0), p .1)
+  fetched-swept es (some B) n =
+      let s = startedAt 0 (some B) n in
+      let p = all-fetched es s in
+      let k = fetches-keeps (hashes es) s in
+      (ap resumed (p .0) ∙ fetched-resumed (fetches s (hashes es)) (k .0) ∙ (λ i. startedAt 1 (some (k .1 i)) (k .2 i)), p .1)
 
-  -- the second leaves the row as it is, and comes to the machine's result
-  abbrev run : List Entry → State
-  run es = stateAfter L img (opened (sizeOf (length img))) es
-
-  tested-is : (es : List Entry) → (testedState L img es ≡ run es) × (testedRow L img es ≡ rowAfter L img (opened (sizeOf (length img))) es)
-  tested-is es =
-      let f = fetched-swept es (sizeOf (length img)) in
-      ((λ i. stateAfter L img (f .0 i) (f .1 i)), (λ i. rowAfter L img (f .0 i) (f .1 i)))
-
-  sized-outcome : {B : ℕ} → sizeOf (length img) ≡ some B → (ks : List ℕ) → resultOf (runs (opened (some B)) ks) ≡ totalOf (rowOf L img ks)
-  unfolding rowOf
-  sized-outcome {B} e ks = runs-outcome ks (opened (some B)) e ∙ rw e (go (descends 0 (map (frontOf B) ks)) (asksOf L img ks))
-    where
-      fs : List ℕ
-      fs = map (frontOf B) ks
-
-      go : (b : Bool) (q : Result (List Asked)) → cond b (refused 10 0) (andThen q λ rs. accepted (totalled (opened (some B)) fs rs))
-          ≡ totalOf (cond b (refused 10 0) (andThen q λ rs. accepted (record { answers = rs; total = readsOf (groups fs rs) })))
-      go true q = refl
-      go false (accepted rs) = ap accepted (omega (arith, unopened (groups fs rs)))
-      go false (refused n i) = refl
-
-  tested-swept : (es : List Entry) (o : Option ℕ) → sizeOf (length img) ≡ o
-      → (resultOf (stateAfter L img (opened o) es) ≡ totalOf (rowOf L img (hashes es))) × (rowAfter L img (opened o) es ≡ es)
-  unfolding rowOf
-  tested-swept es none e = let p = all-passed es (opened none) in (rw (p .0, e), p .1)
-  tested-swept es (some B) e = let p = all-tested es (opened (some B)) in (ap resultOf (p .0) ∙ sized-outcome e (hashes es), p .1)
-
-  -- where it was tested, the entries are told next, or the row is refused
+  -- where the second tested it, the entries are told next, or the row is refused
   tested-resumed : (s : State) → s .phase ≡ 1 → resumed s ≡ settled s
   tested-resumed s h = rw h
 
-  run-resumed : (es : List Entry) (o : Option ℕ) → resumed (stateAfter L img (opened o) es) ≡ settled (stateAfter L img (opened o) es)
-  run-resumed es none = let p = all-passed es (opened none) .0 in ap resumed p ∙ sym (ap settled p)
-  run-resumed es (some B) =
-      let p = all-tested es (opened (some B)) .0 in
-      tested-resumed (stateAfter L img (opened (some B)) es) (ap (λ (s : State). s .phase) p ∙ runs-keeps (hashes es) (opened (some B)) .0)
+  tested-swept : (es : List Entry) (o : Option ℕ) (n : ℕ)
+      → (resumed (stateAfter L img (startedAt 1 o n) es) ≡ settled (stateAfter L img (startedAt 1 o n) es)) × (rowAfter L img (startedAt 1 o n) es ≡ es)
+  tested-swept es none n = let p = all-passed es (startedAt 1 none n) in (ap resumed (p .0) ∙ sym (ap settled (p .0)), p .1)
+  tested-swept es (some B) n =
+      let s = startedAt 1 (some B) n in
+      let p = all-tested es s in
+      (tested-resumed (stateAfter L img s es) (ap (λ (t : State). t .phase) (p .0) ∙ runs-keeps (hashes es) s .0), p .1)
 
-  run-size : (es : List Entry) {B : ℕ} → sizeOf (length img) ≡ some B → run es .size ≡ B
-  run-size es {B} e = rw (e, all-tested es (opened (some B)) .0) (runs-keeps (hashes es) (opened (some B)) .1)
-
-  -- so the third starts with what the second came to
-  third-starts : (es : List Entry) → (resumed (testedState L img es) ≡ settled (run es)) × (testedRow L img es ≡ es)
-  third-starts es =
-      let t = tested-is es in
-      (ap resumed (t .0) ∙ run-resumed es (sizeOf (length img)), t .1 ∙ tested-swept es (sizeOf (length img)) refl .1)
-
-  -- it leaves the state as it is, and the row too where it is refused
+  -- the third leaves the state as it is, and the row too where it is refused
   told-swept : (b : Bool) (es : List Entry) (s : State) → s .phase ≡ cond b 2 3
       → (stateAfter L img s es ≡ s) × (rowAfter L img s es ≡ cond b (map (told L img) es) es)
   told-swept true es s h = subst (λ (p : ℕ). (stateFrom L img p s es ≡ s) × (rowFrom L img p s es ≡ map (told L img) es)) (sym h) (all-told es s)
   told-swept false es s h = subst (λ (p : ℕ). (stateFrom L img p s es ≡ s) × (rowFrom L img p s es ≡ es)) (sym h) (all-passed es s)
 
-  -- a refusal is no answer
-  refusal-never : (s : State) {n : ℕ} → refusalOf s ≡ accepted n → ⊥
-  refusal-never s e = go (eqb (s .number) 1) (eqb (s .number) 10) e
+  -- what the test of an image of size B comes to, where no number stood before it and where one did
+  good-outcome : {B : ℕ} → sizeOf (length img) ≡ some B → (ks : List ℕ) → resultOf (runs (startedAt 1 (some B) 0) ks) ≡ totalOf (R.rowOf L img ks)
+  unfolding R.rowOf
+  good-outcome {B} e ks = runs-outcome ks s e ∙ rw e (go (descends 0 fs) (asksOf L img ks))
     where
-      go : (b c : Bool) {n : ℕ} → cond b (refused 1 0) (cond c (refused 10 0) (refused 3 (s .table))) ≡ accepted n → ⊥
-      go true c e = never-refused (sym e)
-      go false true e = never-refused (sym e)
-      go false false e = never-refused (sym e)
+      s : State
+      s = startedAt 1 (some B) 0
 
-  -- the entries after it are the machine's
-  entries-swept : (s : State) (es : List Entry) → resultOf s ≡ totalOf (rowOf L img (hashes es))
-      → cond (eqb (s .number) 0) (map (told L img) es) es ≡ entriesOf (rowOf L img (hashes es)) es
-  entries-swept s es e = go (eqb (s .number) 0) (rowOf L img (hashes es)) refl e
+      fs : List ℕ
+      fs = map (frontOf B) ks
+
+      go : (b : Bool) (q : Result (List Asked)) → cond b (refused 10 0) (andThen q λ rs. accepted (totalled s fs rs))
+          ≡ totalOf (cond b (refused 10 0) (andThen q λ rs. accepted (record { answers = rs; total = readsOf (groups fs rs) })))
+      go true q = refl
+      go false (accepted rs) = ap accepted (omega (arith, unopened (groups fs rs)))
+      go false (refused n i) = refl
+
+  bad-outcome : {B : ℕ} → sizeOf (length img) ≡ some B → (ks : List ℕ)
+      → resultOf (runs (startedAt 1 (some B) 11) ks) ≡ totalOf (cond (descends 0 (map (frontOf B) ks)) (refused 10 0) (refused 11 0))
+  bad-outcome {B} e ks = runs-outcome ks (startedAt 1 (some B) 11) e ∙ go (descends 0 (map (frontOf B) ks))
     where
-      go : (b : Bool) (r : Result Row) → rowOf L img (hashes es) ≡ r → cond b (accepted (s .total)) (refusalOf s) ≡ totalOf r
-          → cond b (map (told L img) es) es ≡ entriesOf r es
-      go true (accepted w) h e = told-all es (row-answered L img (hashes es) h .asks)
-      go true (refused n i) h e = absurd (never-refused e)
-      go false (accepted w) h e = absurd (refusal-never s e)
-      go false (refused n i) h e = refl
+      go : (b : Bool) → cond b (refused 10 0) (refused 11 0) ≡ totalOf (cond b (refused 10 0) (refused 11 0))
+      go true = refl
+      go false = refl
 
-  -- each entry is ready in its turn, in all three
-  pub first-ready : (es : List Entry) → AllReady L img (begun (sizeOf (length img))) es
-  first-ready es = go (sizeOf (length img)) refl
+-- ---- three sweeps of an image with its tail
+module _ (L : Layout) (layouts : Numbering) (img : List ℕ) where
+  -- its size, and the number that stands before the test
+  abbrev size : Option ℕ
+  size = sizeOf (length (body img))
+
+  abbrev stands : ℕ
+  stands = number (opened layouts img)
+
+  -- what the second leaves
+  abbrev run : List Entry → State
+  run es = stateAfter L (body img) (startedAt 1 size stands) es
+
+  tested-is : (es : List Entry) → (testedState L (body img) (begun layouts img) es ≡ run es) × (testedRow L (body img) (begun layouts img) es ≡ es)
+  tested-is es =
+      let f = fetched-swept L (body img) es size stands in (
+        (λ i. stateAfter L (body img) (f .0 i) (f .1 i)),
+        (λ i. rowAfter L (body img) (f .0 i) (f .1 i)) ∙ tested-swept L (body img) es size stands .1,
+      )
+
+  run-size : (es : List Entry) {B : ℕ} → size ≡ some B → run es .size ≡ B
+  run-size es {B} e =
+      rw (e, all-tested L (body img) es (startedAt 1 (some B) stands) .0) (runs-keeps L (body img) (hashes es) (startedAt 1 (some B) stands) .1)
+
+  -- so the third starts with what the second came to
+  third-starts : (es : List Entry) → resumed (testedState L (body img) (begun layouts img) es) ≡ settled (run es)
+  third-starts es = ap resumed (tested-is es .0) ∙ tested-swept L (body img) es size stands .0
+
+  -- each entry is ready in its turn, in the first and in the second
+  pub first-ready : (es : List Entry) → AllReady L (body img) (begun layouts img) es
+  first-ready es = go size refl
     where
-      go : (o : Option ℕ) → sizeOf (length img) ≡ o → AllReady L img (begun o) es
-      go none e = passed-ready es (begun none)
-      go (some B) e = fetched-ready es (begun (some B)) (whole-of img e)
+      go : (o : Option ℕ) → size ≡ o → AllReady L (body img) (startedAt 0 o stands) es
+      go none e = passed-ready L (body img) es (startedAt 0 none stands)
+      go (some B) e = fetched-ready L (body img) es (startedAt 0 (some B) stands) (whole-of (body img) e)
 
-  pub second-ready : Fits64 L → (es : List Entry) → AllReady L img (resumed (fetchedState L img es)) (fetchedRow L img es)
+  pub second-ready : Fits64 L → (es : List Entry)
+      → AllReady L (body img) (resumed (stateAfter L (body img) (begun layouts img) es)) (rowAfter L (body img) (begun layouts img) es)
   second-ready fits es =
-      let f = fetched-swept es (sizeOf (length img)) in
-      rw (f .0, f .1) (go (sizeOf (length img)) refl)
+      let f = fetched-swept L (body img) es size stands in
+      rw (f .0, f .1) (go size refl)
     where
-      go : (o : Option ℕ) → sizeOf (length img) ≡ o → AllReady L img (opened o) es
-      go none e = passed-ready es (opened none)
-      go (some B) e = tested-ready fits es (opened (some B)) (λ bytes. known-opened L img e)
+      go : (o : Option ℕ) → size ≡ o → AllReady L (body img) (startedAt 1 o stands) es
+      go none e = passed-ready L (body img) es (startedAt 1 none stands)
+      go (some B) e = tested-ready L (body img) fits es (startedAt 1 (some B) stands) (λ bytes. known-started L (body img) e stands)
 
-  pub third-ready : (es : List Entry) → AllReady L img (resumed (testedState L img es)) (testedRow L img es)
-  third-ready es =
-      let t = third-starts es in
-      rw (t .0, t .1) (go (eqb (run es .number) 0) (rowOf L img (hashes es)) refl refl (tested-swept es (sizeOf (length img)) refl .0))
-    where
-      -- in the phase that the test led to
-      in-phase : (b : Bool) → eqb (run es .number) 0 ≡ b → ReadyFrom L img (cond b 2 3) (settled (run es)) es → AllReady L img (settled (run es)) es
-      in-phase b z = subst (λ (c : Bool). ReadyFrom L img (cond c 2 3) (settled (run es)) es) (sym z)
+  -- where it can be opened it is of layout L
+  module _ (only : Only L layouts img) where
+    -- so the test comes to the row of the image with its tail
+    run-outcome : (es : List Entry) → resultOf (run es) ≡ totalOf (rowOf layouts img (hashes es))
+    run-outcome es = go size (opened layouts img) refl refl
+      where
+        go : (o : Option ℕ) (r : Result Header) → size ≡ o → opened layouts img ≡ r
+            → resultOf (stateAfter L (body img) (startedAt 1 o (number r)) es) ≡ totalOf (rowOf layouts img (hashes es))
+        go none r s q = rw (all-passed L (body img) es (startedAt 1 none (number r)) .0, row-unsized layouts img (hashes es) s)
+        go (some B) (accepted h) s q =
+            rw (all-tested L (body img) es (startedAt 1 (some B) 0) .0, row-opened layouts img (hashes es) q, only h q) (good-outcome L (body img) s (hashes es))
+        go (some B) (refused n i) s q =
+            rw (tail-refused layouts img s q, all-tested L (body img) es (startedAt 1 (some B) 11) .0, row-barred layouts img (hashes es) s q)
+            (bad-outcome L (body img) s (hashes es))
 
-      go : (b : Bool) (r : Result Row) → eqb (run es .number) 0 ≡ b → rowOf L img (hashes es) ≡ r
-          → cond b (accepted (run es .total)) (refusalOf (run es)) ≡ totalOf r → AllReady L img (settled (run es)) es
-      go true (accepted w) z h e =
-          let a = row-answered L img (hashes es) h in
-          in-phase true z (told-ready es (a .asks) (settled (run es)) (rw (run-size es (a .sized)) (whole-of img (a .sized))))
-      go true (refused n i) z h e = absurd (never-refused e)
-      go false r z h e = in-phase false z (passed-ready es (settled (run es)))
+    -- each entry is ready in the third
+    pub third-ready : (es : List Entry)
+        → AllReady L (body img) (resumed (testedState L (body img) (begun layouts img) es)) (testedRow L (body img) (begun layouts img) es)
+    third-ready es =
+        rw (third-starts es, tested-is es .1) (go (eqb (run es .number) 0) (rowOf layouts img (hashes es)) refl refl (run-outcome es))
+      where
+        -- in the phase that the test led to
+        in-phase : (b : Bool) → eqb (run es .number) 0 ≡ b → ReadyFrom L (body img) (cond b 2 3) (settled (run es)) es
+            → AllReady L (body img) (settled (run es)) es
+        in-phase b z = subst (λ (c : Bool). ReadyFrom L (body img) (cond c 2 3) (settled (run es)) es) (sym z)
 
-  -- what the three leave is the machine's row
-  pub all-swept : (es : List Entry) → Below (2 ^ 64) (hashes es) → {r : RowResult} {new : List Entry} → rowedOf r ≡ resultOf (toldState L img es)
-      → new ≡ toldRow L img es → Rows L img es r new
-  all-swept es small p q =
-      let s = run es in
-      let t = third-starts es in
-      let tested = tested-swept es (sizeOf (length img)) refl in
-      let told = told-swept (eqb (s .number) 0) es (settled s) refl in
-      record {
-        held = small;
-        answer = p ∙ ap resultOf ((λ i. stateAfter L img (t .0 i) (t .1 i)) ∙ told .0) ∙ tested .0;
-        entries = q ∙ (λ i. rowAfter L img (t .0 i) (t .1 i)) ∙ told .1 ∙ entries-swept s es (tested .0);
-      }
+        go : (b : Bool) (r : Result Row) → eqb (run es .number) 0 ≡ b → rowOf layouts img (hashes es) ≡ r
+            → cond b (accepted (run es .total)) (refusalOf (run es)) ≡ totalOf r → AllReady L (body img) (settled (run es)) es
+        go true (accepted w) z h e =
+            let a = row-answered L (body img) (hashes es) (row-accepted layouts img (hashes es) only h) in
+            in-phase true z (told-ready L (body img) es (a .asks) (settled (run es)) (rw (run-size es (a .sized)) (whole-of (body img) (a .sized))))
+        go true (refused n i) z h e = absurd (never-refused e)
+        go false r z h e = in-phase false z (passed-ready L (body img) es (settled (run es)))
+
+    -- the entries after the third
+    entries-swept : (es : List Entry) → cond (eqb (run es .number) 0) (map (told L (body img)) es) es ≡ entriesOf (rowOf layouts img (hashes es)) es
+    entries-swept es = go (eqb (run es .number) 0) (rowOf layouts img (hashes es)) refl (run-outcome es)
+      where
+        go : (b : Bool) (r : Result Row) → rowOf layouts img (hashes es) ≡ r → cond b (accepted (run es .total)) (refusalOf (run es)) ≡ totalOf r
+            → cond b (map (told L (body img)) es) es ≡ entriesOf r es
+        go true (accepted w) h e =
+            told-all L (body img) es (row-answered L (body img) (hashes es) (row-accepted layouts img (hashes es) only h) .asks)
+        go true (refused n i) h e = absurd (never-refused e)
+        go false (accepted w) h e = absurd (refusal-never (run es) e)
+        go false (refused n i) h e = refl
+
+    -- what the three leave is the row of the image with its tail
+    pub all-swept : (es : List Entry) → (resultOf (toldState L (body img) (begun layouts img) es) ≡ totalOf (rowOf layouts img (hashes es)))
+        × (toldRow L (body img) (begun layouts img) es ≡ entriesOf (rowOf layouts img (hashes es)) es)
+    all-swept es =
+        let t = third-starts es in
+        let r = tested-is es .1 in
+        let told = told-swept L (body img) (eqb (run es .number) 0) es (settled (run es)) refl in (
+          ap resultOf ((λ i. stateAfter L (body img) (t i) (r i)) ∙ told .0) ∙ run-outcome es,
+          (λ i. rowAfter L (body img) (t i) (r i)) ∙ told .1 ∙ entries-swept es,
+        )

@@ -8,9 +8,9 @@ use mathlib.Core.List.{List, _∷_, _++_, append-assoc, append-nil}
 use lib.ListN.{length, take, drop, getD, set, length-set}
 use lib.Seq.{drop-cons, drop-set-lt, take-suc-set, drop-length, take-length}
 use Rattle.multiset.specs.Multisets.{Below}
-use Rattle.crumbmap.specs.Layouts.{Layout}
+use Rattle.crumbmap.specs.Layouts.{Layout, known}
 use Rattle.buckets.specs.Buckets.{Fits64}
-use Rattle.machine.specs.Images.{sizeOf}
+use Rattle.form.specs.Tails.{body}
 use Rattle.answers.specs.Rows.{hashes, rowedOf, Rows}
 use Rattle.answers.specs.declared.Entry.{Entry}
 use Rattle.answers.specs.declared.RowResult.{RowResult}
@@ -18,6 +18,7 @@ use Rattle.grouping.specs.Steps.Grouping.{turned, Ready, begun, resumed, result
 use Rattle.grouping.specs.declared.State.{State}
 use Rattle.grouping.specs.declared.Turned.{Turned}
 use Rattle.rows.specs.Steps.Sweeps.{stateFrom, rowFrom, ReadyFrom, stateAfter, rowAfter, AllReady}
+use Rattle.rows.proofs.FormRowLaws.{Only}
 use Rattle.rows.proofs.SweepLaws.{first-ready, second-ready, third-ready, all-swept}
 
 -- an entry of noughts, for `getD` past the end
@@ -77,21 +78,28 @@ module _ (L : Layout) (img : List ℕ) (s₀ : State) (ys : List Entry) where
       let l : i ≡ length zs = omega (arith, k .long, k .within) in
       (rw (l, drop-length) at (k .state), rw (l, drop-length, take-length, append-nil) at (k .row), (rw (l, drop-length) at (k .small)) tt)
 
--- ---- a row swept three times: the states s₀, s₁ and s₂ before the sweeps, r₁, r₂ and r₃ after them, with the entries zs₁, zs₂ and zs₃
-module _ (L : Layout) (img : List ℕ) (ys : List Entry) (s₀ : State) (e₀ : s₀ ≡ begun (sizeOf (length img))) where
+-- ---- a row swept three times, on the body of an image: the states s₀, s₁ and s₂ before the sweeps, r₁, r₂ and r₃ after them, with the entries
+-- zs₁, zs₂ and zs₃
+module _ (L : Layout) (img : List ℕ) (ys : List Entry) (s₀ : State) (e₀ : s₀ ≡ begun known img) where
   -- every entry is ready at each
-  pub ready-first : AllReady L img s₀ ys
-  ready-first = rw e₀ (first-ready L img ys)
+  pub ready-first : AllReady L (body img) s₀ ys
+  ready-first = rw e₀ (first-ready L known img ys)
 
-  module _ (r₁ s₁ : State) (zs₁ : List Entry) (l₁ : Leaves L img s₀ ys r₁ zs₁) (e₁ : s₁ ≡ resumed r₁) where
-    pub ready-second : Fits64 L → AllReady L img s₁ zs₁
-    ready-second fits = rw (e₁, l₁ .0, l₁ .1, e₀) (second-ready L img fits ys)
+  module _ (r₁ s₁ : State) (zs₁ : List Entry) (l₁ : Leaves L (body img) s₀ ys r₁ zs₁) (e₁ : s₁ ≡ resumed r₁) where
+    pub ready-second : Fits64 L → AllReady L (body img) s₁ zs₁
+    ready-second fits = rw (e₁, l₁ .0, l₁ .1, e₀) (second-ready L known img fits ys)
 
-    module _ (r₂ s₂ : State) (zs₂ : List Entry) (l₂ : Leaves L img s₁ zs₁ r₂ zs₂) (e₂ : s₂ ≡ resumed r₂) where
-      pub ready-third : AllReady L img s₂ zs₂
-      ready-third = rw (e₂, l₂ .0, l₂ .1, e₁, l₁ .0, l₁ .1, e₀) (third-ready L img ys)
+    module _ (r₂ s₂ : State) (zs₂ : List Entry) (l₂ : Leaves L (body img) s₁ zs₁ r₂ zs₂) (e₂ : s₂ ≡ resumed r₂) where
+      pub ready-third : Only L known img → AllReady L (body img) s₂ zs₂
+      ready-third only = rw (e₂, l₂ .0, l₂ .1, e₁, l₁ .0, l₁ .1, e₀) (third-ready L known img only ys)
 
-      -- what the three leave is the machine's row
-      pub rowed : (r₃ : State) (zs₃ : List Entry) (a : RowResult) → Leaves L img s₂ zs₂ r₃ zs₃ → rowedOf a ≡ resultOf r₃ → Rows L img ys a zs₃
-      rowed r₃ zs₃ a l₃ e₃ =
-          all-swept L img ys (l₁ .2) (rw (e₃, l₃ .0, e₂, l₂ .0, l₂ .1, e₁, l₁ .0, l₁ .1, e₀)) (rw (l₃ .1, e₂, l₂ .0, l₂ .1, e₁, l₁ .0, l₁ .1, e₀))
+      -- what the three leave is the row of the image with its tail
+      pub rowed : Only L known img → (r₃ : State) (zs₃ : List Entry) (a : RowResult) → Leaves L (body img) s₂ zs₂ r₃ zs₃ → rowedOf a ≡ resultOf r₃
+          → Rows img ys a zs₃
+      rowed only r₃ zs₃ a l₃ e₃ =
+          let t = all-swept L known img only ys in
+          record {
+            held = l₁ .2;
+            answer = rw (e₃, l₃ .0, e₂, l₂ .0, l₂ .1, e₁, l₁ .0, l₁ .1, e₀) (t .0);
+            entries = rw (l₃ .1, e₂, l₂ .0, l₂ .1, e₁, l₁ .0, l₁ .1, e₀) (t .1);
+          }

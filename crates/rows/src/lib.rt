@@ -8,14 +8,15 @@ ghost use mathlib.Core.Path.{_≡_};
 ghost use Prim.Native.Nat.{_^_};
 ghost use Rattle.multiset.specs.Multisets.{Below};
 ghost use Rattle.crumbmap.specs.Layouts.{layout1};
+ghost use Rattle.form.specs.Tails.{body};
 ghost use Rattle.answers.specs.Rows.{hashes};
 ghost use Rattle.rows.specs.Steps.Sweeps.{stateAfter, rowAfter, AllReady};
 
 // Every entry in its turn, from the state `start`; beside what it leaves, that the hashes are of 64 bits.
 pub fn sweep(image: &[u8], row: &mut [Entry], start: State) -> State
-    requires { ⌜ AllReady layout1 (now image) start (now row) ⌝ }
-    ensures { λ r. ⌜ (r ≡ stateAfter layout1 (now (image .entry)) start (now (row .entry)))
-        × (now (row .exit) ≡ rowAfter layout1 (now (image .entry)) start (now (row .entry)))
+    requires { ⌜ AllReady layout1 (body (now image)) start (now row) ⌝ }
+    ensures { λ r. ⌜ (r ≡ stateAfter layout1 (body (now (image .entry))) start (now (row .entry)))
+        × (now (row .exit) ≡ rowAfter layout1 (body (now (image .entry))) start (now (row .entry)))
         × Below (2 ^ 64) (hashes (now (row .entry))) ⌝ }
 {
     let phase = start.phase;

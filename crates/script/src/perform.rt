@@ -1,8 +1,10 @@
 // A line performed on the images that it names.
 
-use replay::Outcome;
+use replay::call::attach;
+use replay::call::detach;
 use replay::call::merge;
 use replay::call::within;
+use stored::Outcome;
 use stored::images::Lengths;
 use stored::images::copied;
 use stored::images::length_of;
@@ -62,6 +64,12 @@ fn perform<'a>(
             picked(lower, upper, lengths, line.second, target),
             image,
         );
+    }
+    if operation == 13 {
+        return attach(first, image);
+    }
+    if operation == 14 {
+        return detach(first, image);
     }
     within(operation, image, line.p, line.q, out)
 }

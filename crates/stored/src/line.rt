@@ -3,7 +3,7 @@
 use text::Digits;
 use text::hex::number_of;
 
-// An operation, the image that it is performed on, two sources for a merge or a copy, and the numbers p and q.
+// An operation, the image that it is performed on, two sources for a merge, a copy or a move, and the numbers p and q.
 pub struct Line {
     pub operation: u64,
     pub target: u64,
@@ -51,7 +51,7 @@ fn line_of(head: u64, p: u64, q: usize) -> Parsed {
     if operation == 8 {
         return joined(operation, x, y, z);
     }
-    if operation == 10 {
+    if operation == 10 || operation == 13 || operation == 14 {
         return joined(operation, x, x, y);
     }
     Parsed::Line(Line {
@@ -64,7 +64,7 @@ fn line_of(head: u64, p: u64, q: usize) -> Parsed {
     })
 }
 
-// A merge or a copy, whose target is none of its sources.
+// A merge, a copy or a move, whose target is none of its sources.
 fn joined(operation: u64, first: u64, second: u64, target: u64) -> Parsed {
     if first == target || second == target {
         return Parsed::Other;

@@ -10,12 +10,12 @@ pub fn of_image(image: &[u8]) -> u64 {
     of_bytes(14695981039346656037, image)
 }
 
-// The same for an occupancy page.
+// The same for an occupancy page, or for a move with its target.
 pub fn of_output(image: &[u8], out: &[u8]) -> u64 {
     of_bytes(of_image(image), out)
 }
 
-// The same for a page.
+// The same for a page, a tail or a row.
 pub fn of_page(image: &[u8], out: &[u64]) -> u64 {
     of_entries(of_image(image), out)
 }

@@ -1,7 +1,7 @@
 // Reads the stored calls from standard input, has them performed on three images, and prints each answer with the checksum of the bytes that the call was lent.
 
-use replay::Outcome;
 use script::perform::step;
+use stored::Outcome;
 use stored::images::Lengths;
 use stored::said::put_said;
 
@@ -41,9 +41,9 @@ fn run(a: &mut [u8], b: &mut [u8], c: &mut [u8], out: &mut [u64]) {
 }
 
 fn main() {
-    let mut a = [0u8; 12800];
-    let mut b = [0u8; 12800];
-    let mut c = [0u8; 12800];
+    let mut a = [0u8; 12864];
+    let mut b = [0u8; 12864];
+    let mut c = [0u8; 12864];
     let mut out = [0u64; 512];
     run(&mut a, &mut b, &mut c, &mut out);
 }

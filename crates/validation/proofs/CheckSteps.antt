@@ -1,17 +1,21 @@
--- The steps of a check, for any layout: what a pass over buckets or members still has before it, turn by turn; what is known once every bucket was
--- read. Main results: `front-on`, `back-on`, `early-on`, `members-on` with their `-stop` and `-end`; `turn-short`, `turn-full`; `all-read`.
+-- The steps of a check, for any layout: what a pass over buckets or members still has before it, and what it has counted, turn by turn; what is known
+-- once every bucket was read; what a check that counts says. Main results: `front-on`, `back-on`, `early-on`, `members-on` with their `-stop` and
+-- `-end`; `counts-on`; `turn-short`, `turn-full`; `all-read`; `check-refused`, `check-counted`, `total-refused`,
+-- `total-passed`.
 use mathlib.Core.Path.{_≡_, refl, sym, _∙_}
 use Prim.Native.Nat.{ℕ, suc, _+_, _/_, _%_, _-_, _≤_, _<_}
 use mathlib.Core.Bool.{Bool, true, false, not}
-use mathlib.Core.List.{List}
+use mathlib.Core.List.{List, [], _∷_}
 use mathlib.Core.Option.{Option, none, some}
 use native.Mathlib.Numerals.{add-one}
+use native.Mathlib.Nat.{zero-add, add-mul}
 use native.Mathlib.Omega.{arith}
 use lib.ListN.{length, drop, getD}
 use lib.Seq.{drop-cons, drop-length}
 use lib.Dec.{leb}
 use borrow.Author.Tests.{eq-eqb, ne-eqb, not-true, not-false}
 use Rattle.multiset.specs.Multisets.{largest}
+use Rattle.multiset.proofs.SumLaws.{sum-last}
 use Rattle.crumbmap.specs.Layouts.{Layout, fronts, backyards}
 use Rattle.crumbmap.specs.CrumbMap.{home}
 use Rattle.crumbmap.specs.Steps.Places.{homeOf}
@@ -20,17 +24,55 @@ use Rattle.crumbmap.specs.declared.Home.the-variants.{At, Invalid}
 use Rattle.crumbmap.specs.declared.Front.{Front}
 use Rattle.buckets.specs.Buckets.{Fits64, frontMembers, backMembers}
 use Rattle.minifilter.specs.Steps.Readings.{readingOf}
-use Rattle.machine.specs.Results.{accepted, refused}
+use Rattle.machine.specs.Results.{Result, accepted, refused, andThen}
 use Rattle.machine.specs.Images.{bucketAt, frontAt, backAt, inFront, inBack}
-use Rattle.machine.specs.Checks.{unsoundFront, unsoundBack, inTurn, homeInTurn, allInTurn, early}
+use Rattle.machine.specs.Machine.{occupancy}
+use Rattle.machine.specs.Checks.{unsoundFront, unsoundBack, inTurn, homeInTurn, allInTurn, early, checkSized}
 use Rattle.machine.proofs.CheckLaws.{fronts-read, backs-read}
-use Rattle.machine.proofs.AcceptedLaws.{was-sound}
+use Rattle.machine.proofs.AcceptedLaws.{same-answer, never-refused, was-sound, andThen-accepted}
+use Rattle.form.specs.Tails.{Header, members}
+use Rattle.form.specs.Calls.{checkedBy}
+use Rattle.answers.specs.Answers.{refusal, outcomeOf}
+use Rattle.answers.specs.declared.Refusal.{Refusal}
+use Rattle.answers.specs.declared.Outcome.{Outcome}
+use Rattle.answers.specs.declared.Outcome.the-variants as D
 use Rattle.image.specs.Steps.ImageReads.{FrontRead, BackRead, FrontFull, Whole}
 use Rattle.image.proofs.ImageReadLaws.{front-in, back-in}
 use Rattle.image.proofs.PartLaws.{front-says, back-says}
-use Rattle.validation.specs.Steps.Passes.{faultOf, AllRead}
+use Rattle.validation.specs.Steps.Passes.{Counts, FrontsCounted, BacksCounted, FrontsSay, BacksSay, faultOf, AllRead, checkedOf, countedCheck}
+use Rattle.validation.specs.declared.Tally.{Tally}
+use Rattle.validation.specs.declared.Tally.the-variants as T
 use Rattle.validation.specs.declared.Fault.{Fault}
 use Rattle.validation.specs.declared.Fault.the-variants as F
+use Rattle.validation.specs.declared.Checked.{Checked}
+use Rattle.validation.specs.declared.Checked.the-variants as C
+
+-- what a pass over buckets said of them
+module _ (L : Layout) (B : ℕ) (img : List ℕ) {r : Tally} where
+  pub fronts-told : FrontsSay L B img r → {m : ℕ} → r ≡ T.Members m → FrontsCounted L B img m
+  fronts-told said e = rw e at said
+
+  pub fronts-unsound : FrontsSay L B img r → {i : ℕ} → r ≡ T.Unsound i → unsoundFront L (fronts B) 0 img ≡ some i
+  fronts-unsound said e = rw e at said
+
+  pub backs-told : BacksSay L B img r → {m : ℕ} → r ≡ T.Members m → BacksCounted L B img m
+  backs-told said e = rw e at said
+
+  pub backs-unsound : BacksSay L B img r → {i : ℕ} → r ≡ T.Unsound i → unsoundBack L B (backyards B) 0 img ≡ some i
+  backs-unsound said e = rw e at said
+
+-- none is counted, and one more
+module _ (read : ℕ → Result (List ℕ)) (k : ℕ) where
+  pub counts-none : Counts read k 0 0
+  counts-none = record { many = refl; few = omega arith }
+
+  pub counts-on : {n m l : ℕ} {xs : List ℕ} → Counts read k n m → read n ≡ accepted xs → length xs ≡ l → length xs ≤ k → Counts read k (n + 1) (m + l)
+  counts-on {n} {m} {l} c e h most =
+      let one : occupancy (read (0 + n)) ≡ l = rw (zero-add n, e) h in
+      record {
+        many = rw (add-one n) (omega (arith, sum-last (λ (i : ℕ). occupancy (read i)) 0 n, c .many));
+        few = rw (add-mul n 1 k) (omega (arith, c .few));
+      }
 
 -- what a fault says
 pub fault-none : (o : Option ℕ) {r : Fault} → r ≡ faultOf o → r ≡ F.Nowhere → o ≡ none
@@ -108,6 +150,12 @@ module _ (L : Layout) (B j : ℕ) (img ys : List ℕ) (slot : ℕ) {o : Bool} (p
   unfolding allInTurn
   members-end h = sym (p ∙ rw (h, drop-length ys))
 
+-- a bucket without members has none before its turn
+pub none-early : (L : Layout) (B j : ℕ) (img ys : List ℕ) → length ys ≡ 0 → true ≡ allInTurn L B j img ys
+unfolding allInTurn
+none-early L B j img [] e = refl
+none-early L B j img (y ∷ ys) e = absurd (omega arith)
+
 -- ---- one member: its front bucket
 
 pub turn-short : {L : Layout} {f : ℕ} {img : List ℕ} → FrontRead L f img → (x : ℕ) → length (inFront L f img) < L .frontSlots
@@ -146,3 +194,29 @@ module _ {L : Layout} (fits : Fits64 L) {B : ℕ} {img : List ℕ} (whole : Whol
     front = λ f h. front-was-read f h (fronts-read L B img p f h);
     back = λ j h. back-was-read j h (backs-read L B img q j h);
   }
+
+-- ---- a check that counts
+
+-- a result that goes on to an answer was refused before it
+answered-refused : {A C : Type 0} (r : Result A) (a : C) {n i : ℕ} → andThen r (λ _. accepted a) ≡ refused n i → r ≡ refused n i
+answered-refused (accepted b) a e = absurd (never-refused e)
+answered-refused (refused m j) a e = cc
+
+module _ (L : Layout) (B : ℕ) (img : List ℕ) {r : Checked} (said : checkedOf r ≡ countedCheck L B img) where
+  pub check-refused : {why : Refusal} → r ≡ C.Refused why → checkSized L B img ≡ refusal why
+  unfolding countedCheck
+  check-refused e = answered-refused (checkSized L B img) (members L B img) (sym (rw e at said))
+
+  pub check-counted : {n : ℕ} → r ≡ C.Members n → (checkSized L B img ≡ accepted tt) × (members L B img ≡ n)
+  unfolding countedCheck
+  check-counted {n} e =
+      let p = andThen-accepted (checkSized L B img) (λ _. accepted (members L B img)) n (sym (rw e at said)) in
+      (p .1, same-answer (p .2))
+
+-- what a check by a header said
+module _ (h : Header) (b : List ℕ) {r : Outcome} (said : outcomeOf r ≡ checkedBy h b) where
+  pub total-refused : {why : Refusal} → r ≡ D.Refused why → checkedBy h b ≡ refusal why
+  total-refused e = sym said ∙ rw e
+
+  pub total-passed : r ≡ D.Accepted → checkedBy h b ≡ accepted tt
+  total-passed e = sym said ∙ rw e

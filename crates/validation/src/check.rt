@@ -1,6 +1,9 @@
-// Check: "all buckets sound by table number, then each backyard member's front bucket holds 28, none larger than that member".
+// Check: "all buckets sound by table number, then each backyard member's front bucket holds 28, none larger than that member", and the total is
+// that of the members, which are counted as the buckets are read.
 
+use crate::Checked;
 use crate::Fault;
+use crate::Tally;
 use answers::Outcome;
 use answers::Refusal;
 use crumbmap::Backyard;
@@ -9,85 +12,114 @@ use crumbmap::Home;
 use crumbmap::layout::BACK_SLOTS;
 use crumbmap::layout::FRONT_SLOTS;
 use crumbmap::map::home_of;
-use image::Size;
 use image::back::read_back_at;
 use image::front::read_front_at;
 use image::place::back_bucket;
 use image::place::bucket as bucket_of;
-use image::place::size_of;
 use image::place::table_of;
 use minifilter::Reading;
+use search::find::count_back;
 use search::find::count_front;
 use search::find::largest_front;
 use search::list::list_back;
+use tails::Opening;
+use tails::open::open_image;
 ghost use mathlib.Core.Path.{_≡_};
 ghost use Prim.Native.Nat.{_/_, _%_, _<_};
-ghost use Rattle.crumbmap.specs.Layouts.{layout1, fronts, backyards};
+ghost use Rattle.crumbmap.specs.Layouts.{layout1, known, backyards};
 ghost use Rattle.crumbmap.specs.CrumbMap.{home};
 ghost use Rattle.machine.specs.Images.{inBack};
-ghost use Rattle.machine.specs.Checks.{unsoundFront, unsoundBack, homeInTurn, allInTurn, early, checkSized};
-ghost use Rattle.machine.specs.Calls.{checkOf};
+ghost use Rattle.machine.specs.Checks.{homeInTurn, allInTurn, early};
+ghost use Rattle.form.specs.Calls.{checkedBy, checkOf};
 ghost use Rattle.answers.specs.Answers.{outcomeOf};
 ghost use Rattle.image.specs.Steps.ImageReads.{Whole};
-ghost use Rattle.validation.specs.Steps.Passes.{faultOf, AllRead};
+ghost use Rattle.tails.specs.Steps.Openings.{headerOf};
+ghost use Rattle.validation.specs.Steps.Passes.{faultOf, AllRead, FrontsSay, BacksSay, checkedOf, countedCheck};
 
 // Whether the bytes are a catalogue.
 pub fn check(image: &[u8]) -> Outcome
-    ensures { λ r. ⌜ outcomeOf r ≡ checkOf layout1 (now (image .entry)) ⌝ }
+    ensures { λ r. ⌜ outcomeOf r ≡ checkOf known (now (image .entry)) ⌝ }
 {
-    let Size::Buckets(size) = size_of(image.len()) else {
-        return Outcome::Refused(Refusal::WrongLength);
-    };
-    check_sized(image, size)
+    match open_image(image) {
+        Opening::Refused(why) => Outcome::Refused(why),
+        Opening::At(opened) => {
+            let end = opened.end;
+            check_total(&image[..end], opened.size, opened.total)
+        }
+    }
 }
 
-// An image of a size: any 3 comes before any 8.
-pub fn check_sized(image: &[u8], size: usize) -> Outcome
+// A body of a size, and the total that its tail tells: 3, 8, then 12.
+pub fn check_total(image: &[u8], size: usize, total: u64) -> Outcome
     requires { ⌜ Whole size (now image) ⌝ }
-    ensures { λ r. ⌜ outcomeOf r ≡ checkSized layout1 size (now (image .entry)) ⌝ }
+    ensures { λ r. ⌜ outcomeOf r ≡ checkedBy (headerOf size total 0) (now (image .entry)) ⌝ }
 {
-    match unsound_front(image, size) {
-        Fault::At(table) => Outcome::Refused(Refusal::Unsound(table)),
-        Fault::Nowhere => match unsound_back(image, size) {
-            Fault::At(table) => Outcome::Refused(Refusal::Unsound(table)),
-            Fault::Nowhere => match first_early(image, size) {
-                Fault::At(table) => Outcome::Refused(Refusal::Early(table)),
-                Fault::Nowhere => Outcome::Accepted,
+    match check_sized(image, size) {
+        Checked::Refused(why) => Outcome::Refused(why),
+        Checked::Members(members) => {
+            if total == members as u64 {
+                Outcome::Accepted
+            } else {
+                Outcome::Refused(Refusal::Miscounted)
+            }
+        }
+    }
+}
+
+// A body of a size: any 3 comes before any 8.
+pub fn check_sized(image: &[u8], size: usize) -> Checked
+    requires { ⌜ Whole size (now image) ⌝ }
+    ensures { λ r. ⌜ checkedOf r ≡ countedCheck layout1 size (now (image .entry)) ⌝ }
+{
+    match count_fronts(image, size) {
+        Tally::Unsound(table) => Checked::Refused(Refusal::Unsound(table)),
+        Tally::Members(front) => match count_backs(image, size) {
+            Tally::Unsound(table) => Checked::Refused(Refusal::Unsound(table)),
+            Tally::Members(back) => match first_early(image, size) {
+                Fault::At(table) => Checked::Refused(Refusal::Early(table)),
+                Fault::Nowhere => {
+                    let all = front + back;
+                    Checked::Members(all)
+                }
             },
         },
     }
 }
 
-// The first front bucket that is unsound.
-fn unsound_front(image: &[u8], size: usize) -> Fault
+// The members of the front buckets, or the first of them that is unsound.
+fn count_fronts(image: &[u8], size: usize) -> Tally
     requires { ⌜ Whole size (now image) ⌝ }
-    ensures { λ r. ⌜ r ≡ faultOf (unsoundFront layout1 (fronts size) 0 (now (image .entry))) ⌝ }
+    ensures { λ r. ⌜ FrontsSay layout1 size (now (image .entry)) r ⌝ }
 {
     let end = 8 * size;
+    let mut members = 0;
     let mut f = 0;
     while f < end {
-        let Reading::Members(_, _) = read_front_at(image, Front(f), 0) else {
-            return Fault::At(f);
+        let Reading::Members(n, _) = read_front_at(image, Front(f), 0) else {
+            return Tally::Unsound(f);
         };
+        members += n;
         f += 1;
     }
-    Fault::Nowhere
+    Tally::Members(members)
 }
 
-// The first backyard bucket that is unsound.
-fn unsound_back(image: &[u8], size: usize) -> Fault
+// The members of the backyard buckets, or the first of them that is unsound.
+fn count_backs(image: &[u8], size: usize) -> Tally
     requires { ⌜ Whole size (now image) ⌝ }
-    ensures { λ r. ⌜ r ≡ faultOf (unsoundBack layout1 size (backyards size) 0 (now (image .entry))) ⌝ }
+    ensures { λ r. ⌜ BacksSay layout1 size (now (image .entry)) r ⌝ }
 {
     let end = size + 7;
+    let mut members = 0;
     let mut j = 0;
     while j < end {
-        let Reading::Members(_, _) = read_back_at(image, size, Backyard(j), 0) else {
-            return Fault::At(table_of(size, Backyard(j)));
+        let Reading::Members(n, _) = read_back_at(image, size, Backyard(j), 0) else {
+            return Tally::Unsound(table_of(size, Backyard(j)));
         };
+        members += n;
         j += 1;
     }
-    Fault::Nowhere
+    Tally::Members(members)
 }
 
 // The first backyard bucket with a member before its turn.
@@ -106,8 +138,19 @@ fn first_early(image: &[u8], size: usize) -> Fault
     Fault::Nowhere
 }
 
-// No member of a backyard bucket stands before its turn.
+// No member of a backyard bucket stands before its turn; an empty one is not listed.
 fn bucket_in_turn(image: &[u8], size: usize, bucket: Backyard) -> bool
+    requires { ⌜ AllRead layout1 size (now image) × (bucket .0 < backyards size) ⌝ }
+    ensures { λ r. ⌜ r ≡ allInTurn layout1 size (bucket .0) (now (image .entry)) (inBack layout1 size (bucket .0) (now (image .entry))) ⌝ }
+{
+    if count_back(back_bucket(image, size, bucket)) == 0 {
+        return true;
+    }
+    list_in_turn(image, size, bucket)
+}
+
+// The same by its members, listed.
+fn list_in_turn(image: &[u8], size: usize, bucket: Backyard) -> bool
     requires { ⌜ AllRead layout1 size (now image) × (bucket .0 < backyards size) ⌝ }
     ensures { λ r. ⌜ r ≡ allInTurn layout1 size (bucket .0) (now (image .entry)) (inBack layout1 size (bucket .0) (now (image .entry))) ⌝ }
 {

@@ -23,7 +23,7 @@ pub const EMPTY: u64 = (1 << MINIS) - 1;
 
 // "Bytes 0 to 7: a little-endian word."
 pub fn word_of(b: &[u8]) -> u64
-    requires { ⌜ length (now b) ≡ 64 ⌝ }
+    requires { ⌜ wordBytes1 ≤ length (now b) ⌝ }
     ensures { λ r. ⌜ r ≡ value 256 (take wordBytes1 (now (b .entry))) ⌝ }
 {
     (b[0] as u64)
@@ -37,7 +37,7 @@ pub fn word_of(b: &[u8]) -> u64
 }
 
 pub fn put_word(b: &mut [u8], word: u64)
-    requires { ⌜ length (now b) ≡ 64 ⌝ }
+    requires { ⌜ wordBytes1 ≤ length (now b) ⌝ }
     ensures { λ _. ⌜ now (b .exit) ≡ digits 256 wordBytes1 word ++ drop wordBytes1 (now (b .entry)) ⌝ }
 {
     let w1 = word / 256;

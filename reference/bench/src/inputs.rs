@@ -31,7 +31,7 @@ impl Setting {
     }
 
     pub fn buckets(self) -> usize {
-        (self.shape().fronts() + self.shape().backyards()) as usize
+        self.shape().buckets() as usize
     }
 }
 

@@ -132,6 +132,8 @@ Load is the members' share of the 28 × F front slots; 90 % are 82 % of all slot
 random. `insert` and `delete` take a fiftieth of the members as new ones, in and out \
 again, and the image is then copied anew from the start. `merge` has 45 % of the \
 members in each source, and includes both checks. `page` lists the whole image in one call. \
+`attach` and `detach` move all members from an old image and to one, and include the check; \
+`tail` tells the total and the change count. \
 `fast` is unverified Rust with the same reading rule: every bucket is read whole before it is \
 trusted. `HashMap` is Rust's `HashMap<u64, u32>` as a counting multiset, with the hashes as keys \
 that are not hashed again; its `page` collects and sorts.
@@ -280,7 +282,9 @@ fn calls(setting: Setting, folder: &str) {
         open.read(true).write(true).create(true).truncate(false);
         open.open(format!("{folder}/{number}")).expect("a buffer")
     };
-    let mut rounds = Rounds::new(setting, Who::First((0..4).map(file).collect()));
+    // Buffer 4 has rows in every `bench`, also in one that has no old image.
+    let files = [0, 1, 2, 3, 5].map(file);
+    let mut rounds = Rounds::new(setting, Who::First(files.into()));
     let mut rows = rows_alone(setting, rounds.start(), &file(4));
     let mut names = CALLS.map(|(name, _)| name).to_vec();
     if rows.is_some() {

@@ -10,7 +10,7 @@ use std::sync::LazyLock;
 use std::time::Instant;
 
 /// What is measured, with its unit.
-pub const CALLS: [(&str, &str); 9] = [
+pub const CALLS: [(&str, &str); 12] = [
     ("ask, hit", "call"),
     ("ask, miss", "call"),
     ("count", "call"),
@@ -20,6 +20,9 @@ pub const CALLS: [(&str, &str); 9] = [
     ("merge", "member"),
     ("check", "bucket"),
     ("fresh", "bucket"),
+    ("attach", "bucket"),
+    ("detach", "bucket"),
+    ("tail", "call"),
 ];
 
 /// The first five are calls on one hash.
@@ -139,7 +142,14 @@ fn measure(
         5 => timed(clock, || subject.page()),
         6 => timed(clock, || subject.merge()),
         7 => timed(clock, || subject.check()),
-        _ => timed(clock, || (0..freshes).map(|_| subject.fresh()).last()?),
+        8 => timed(clock, || (0..freshes).map(|_| subject.fresh()).last()?),
+        9 => {
+            // The old image that is moved is what this leaves.
+            subject.detach();
+            timed(clock, || subject.attach())
+        }
+        10 => timed(clock, || subject.detach()),
+        _ => timed(clock, || subject.tail(size)),
     };
     Some((result?, ns))
 }
@@ -214,8 +224,9 @@ impl Rounds {
             3 | 4 => batch.new.len(),
             5 => self.members.len(),
             6 => 2 * sources(&self.members).0.len(),
-            7 => self.setting.buckets(),
-            _ => freshes * self.setting.buckets(),
+            7 | 9 | 10 => self.setting.buckets(),
+            8 => freshes * self.setting.buckets(),
+            _ => batch.hits.len(),
         };
         for turn in 0..self.subjects.len() {
             let who = (self.done + turn) % self.subjects.len();

@@ -3,9 +3,11 @@
 use crate::inputs::sources;
 use crate::lines::Lines;
 use model::catalogue::Catalogue;
+use model::shape::TAIL;
 use std::collections::HashMap;
 use std::fs::File;
 use std::hash::{BuildHasherDefault, Hasher};
+use std::hint::black_box;
 
 /// One implementation with its own buffers. Each method does a whole batch, so that what picks
 /// the implementation is not in the time; each gives a number that all must agree on.
@@ -31,6 +33,12 @@ pub trait Subject {
     fn check(&mut self) -> Option<u64>;
     /// 0 when accepted.
     fn fresh(&mut self) -> Option<u64>;
+    /// Moves the old image that the last detach left to the new form: 0 when accepted.
+    fn attach(&mut self) -> Option<u64>;
+    /// Moves the members to an old image: 0 when accepted.
+    fn detach(&mut self) -> Option<u64>;
+    /// Asks so many times for the tail: the sum of the totals.
+    fn tail(&mut self, times: u64) -> Option<u64>;
     /// Bytes that the members take at the start.
     fn bytes(&self) -> usize;
 }
@@ -44,6 +52,7 @@ pub struct Filter<C> {
     image: Lines,
     halves: [Lines; 2],
     target: Lines,
+    old: Lines,
     out: Vec<u64>,
 }
 
@@ -70,6 +79,7 @@ impl<C: Catalogue> Filter<C> {
                 Lines::of(second, files.get(2)),
             ],
             target: Lines::of(start, files.get(3)),
+            old: Lines::of(&start[..start.len() - TAIL], files.get(4)),
             out: vec![0; members],
         }
     }
@@ -134,6 +144,24 @@ impl<C: Catalogue> Subject for Filter<C> {
 
     fn fresh(&mut self) -> Option<u64> {
         Some(self.catalogue.fresh(&mut self.target))
+    }
+
+    fn attach(&mut self) -> Option<u64> {
+        Some(self.catalogue.attach(&self.old, &mut self.target))
+    }
+
+    fn detach(&mut self) -> Option<u64> {
+        Some(self.catalogue.detach(&self.image, &mut self.old))
+    }
+
+    fn tail(&mut self, times: u64) -> Option<u64> {
+        let image: &[u8] = &self.image;
+        let total = |_| {
+            let mut out = [0; 2];
+            black_box(self.catalogue.tail(black_box(image), &mut out));
+            out[0]
+        };
+        Some((0..times).map(total).sum())
     }
 
     fn bytes(&self) -> usize {
@@ -256,6 +284,18 @@ impl Subject for Map {
     }
 
     fn fresh(&mut self) -> Option<u64> {
+        None
+    }
+
+    fn attach(&mut self) -> Option<u64> {
+        None
+    }
+
+    fn detach(&mut self) -> Option<u64> {
+        None
+    }
+
+    fn tail(&mut self, _: u64) -> Option<u64> {
         None
     }
 

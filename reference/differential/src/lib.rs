@@ -43,6 +43,15 @@ impl Catalogue for Fast {
     fn merge(&self, first: &[u8], second: &[u8], target: &mut [u8]) -> u64 {
         fast::merge(first, second, target)
     }
+    fn tail(&self, image: &[u8], out: &mut [u64]) -> u64 {
+        fast::tail(image, out)
+    }
+    fn attach(&self, old: &[u8], target: &mut [u8]) -> u64 {
+        fast::attach(old, target)
+    }
+    fn detach(&self, image: &[u8], target: &mut [u8]) -> u64 {
+        fast::detach(image, target)
+    }
 }
 
 /// The C functions.
@@ -86,6 +95,15 @@ impl Catalogue for Capi {
     fn merge(&self, first: &[u8], second: &[u8], target: &mut [u8]) -> u64 {
         breadcrumb::packed::merge(first, second, target)
     }
+    fn tail(&self, image: &[u8], out: &mut [u64]) -> u64 {
+        breadcrumb::packed::tail(image, out)
+    }
+    fn attach(&self, old: &[u8], target: &mut [u8]) -> u64 {
+        breadcrumb::packed::attach(old, target)
+    }
+    fn detach(&self, image: &[u8], target: &mut [u8]) -> u64 {
+        breadcrumb::packed::detach(image, target)
+    }
 }
 
 #[cfg(feature = "capi")]
@@ -120,6 +138,10 @@ pub struct Follower<'a> {
     beside: Beside,
     /// Calls compared: their answers, and every byte of images and output.
     pub compared: u64,
+    /// Tails among them.
+    pub tails_compared: u64,
+    /// Moves among them, either way.
+    pub moves_compared: u64,
     /// Rows compared beside them: their answers, and every byte of entries and image.
     pub rows_compared: u64,
     /// Occupancy pages compared beside them: their answers, and every byte of output and image.
@@ -133,6 +155,8 @@ impl<'a> Follower<'a> {
             images: Images::default(),
             beside: Beside::new(0),
             compared: 0,
+            tails_compared: 0,
+            moves_compared: 0,
             rows_compared: 0,
             occupancy_compared: 0,
         }
@@ -152,6 +176,11 @@ impl<'a> Follower<'a> {
             self.same_image(x, expected, &text);
         }
         self.compared += 1;
+        match line {
+            Line::Tail { .. } => self.tails_compared += 1,
+            Line::Attach { .. } | Line::Detach { .. } => self.moves_compared += 1,
+            _ => {}
+        }
         for make in [Beside::row, Beside::occupancy] {
             if self.beside.is_due(CALLS_A_CALL_BESIDE) {
                 let x = line.images()[0];
@@ -169,19 +198,27 @@ impl<'a> Follower<'a> {
         }
     }
 
-    /// A call on an image as it is, and on the same with a bucket of zeros, which is unsound.
+    /// A call on an image as it is, on the same with a bucket of zeros, which is unsound, and on
+    /// the same with a tail of zeros, which is bad.
     fn call_beside(&mut self, x: usize, call: &Call, expected: &Images, text: &str) {
         self.compare(x, call, text);
-        let shape = Shape::of_length(expected.image[x].len());
-        if let Some(table) = shape.and_then(|shape| self.beside.table(call, shape)) {
-            let at = table as usize * BUCKET;
-            let bucket = at..at + BUCKET;
-            self.images.image[x][bucket.clone()].fill(0);
-            self.compare(x, call, text);
-            assert_eq!(self.images.image[x][bucket.clone()], [0; BUCKET], "{text}");
-            self.images.image[x][bucket.clone()].copy_from_slice(&expected.image[x][bucket]);
+        if let Some(shape) = Shape::of_length(expected.image[x].len()) {
+            if let Some(table) = self.beside.table(call, shape) {
+                self.with_zeros(x, table as usize * BUCKET, call, text);
+            }
+            self.with_zeros(x, shape.old_length(), call, text);
         }
         self.same_image(x, expected, text);
+    }
+
+    /// A call with the 64 bytes from `at` on 0, which are then as before.
+    fn with_zeros(&mut self, x: usize, at: usize, call: &Call, text: &str) {
+        let bytes = at..at + BUCKET;
+        let before = self.images.image[x][bytes.clone()].to_vec();
+        self.images.image[x][bytes.clone()].fill(0);
+        self.compare(x, call, text);
+        assert_eq!(self.images.image[x][bytes.clone()], [0; BUCKET], "{text}");
+        self.images.image[x][bytes].copy_from_slice(&before);
     }
 
     /// One call, by the implementation and by the model.
@@ -242,39 +279,53 @@ impl<'a> Follower<'a> {
         }
     }
 
-    /// The shortest and the longest image, and lengths on either side.
+    /// The shortest and the longest image of either form, and lengths on either side.
     pub fn ends(&mut self) {
         let mut observer = |line: Line, answer: u64, images: &Images| {
             self.follow(line, answer, images);
         };
         let p = &mut Player::new(1, &mut observer);
-        for length in [1024, 37_749_184] {
+        for b in [1, 65536] {
+            let shape = Shape { b };
+            let length = shape.length();
             for wrong in [length - 1, length + 1, length - 576, length + 576] {
                 if Shape::of_length(wrong).is_none() {
-                    wrong_length(p, wrong);
+                    wrong_length(p, shape, wrong);
                 }
             }
-            p.play(Line::New { x: 0, length });
+            // No other call takes an old image.
+            wrong_length(p, shape, shape.old_length());
+            p.new_image(0, length);
+            calls_at_ends(p);
+            // The layout alone: a good tail behind unsound buckets.
+            p.play(Line::Poke {
+                x: 0,
+                at: shape.old_length() + 16,
+                word: 1,
+            });
             calls_at_ends(p);
             p.play(Line::Fresh { x: 0 });
             calls_at_ends(p);
-            p.play(Line::New { x: 1, length });
-            p.play(Line::New { x: 2, length });
+            p.new_image(1, length);
+            p.new_image(2, length);
             p.merge(0, 1, 2);
             p.merge(0, 0, 2);
             p.check(2);
+            moves_at_ends(p, shape);
         }
         for x in 0..3 {
-            p.play(Line::New { x, length: 0 });
+            p.new_image(x, 0);
         }
     }
 }
 
-fn wrong_length(p: &mut Player, length: usize) {
-    p.play(Line::New { x: 0, length });
+/// Image 0 gets this length, which none of the new form has.
+fn wrong_length(p: &mut Player, shape: Shape, length: usize) {
+    p.new_image(0, length);
     p.play(Line::Fresh { x: 0 });
     p.check(0);
     p.page(0, 0, 1);
+    p.tail(0, 2);
     for hash in [0, u64::MAX] {
         p.play(Line::Insert { x: 0, hash });
         p.play(Line::Delete { x: 0, hash });
@@ -282,6 +333,28 @@ fn wrong_length(p: &mut Player, length: usize) {
         p.play(Line::Count { x: 0, hash });
     }
     p.merge(0, 0, 1);
+    // Moves from and to a fresh image.
+    p.fresh(1, shape.b);
+    p.detach(1, 0);
+    p.attach(0, 1);
+    p.detach(0, 1);
+    p.attach(1, 0);
+}
+
+/// Image 0 becomes an old one and a new one again; then the lengths beside the old one.
+fn moves_at_ends(p: &mut Player, shape: Shape) {
+    let (length, old) = (shape.length(), shape.old_length());
+    p.new_image(1, old);
+    p.detach(0, 1);
+    p.new_image(2, length);
+    p.attach(1, 2);
+    p.tail(2, 2);
+    p.check(2);
+    for wrong in [old - 1, old + 1, old - 576, old + 576] {
+        p.new_image(1, wrong);
+        p.detach(0, 1);
+        p.attach(1, 2);
+    }
 }
 
 /// Calls on the first and the last front bucket, and on one in between until it is full.
@@ -316,5 +389,6 @@ fn calls_at_ends(p: &mut Player) {
         p.page(0, start, 0);
         p.page(0, start, 100);
     }
+    p.tail(0, 2);
     p.check(0);
 }

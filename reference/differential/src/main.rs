@@ -4,7 +4,7 @@
 //!     differential vectors FILE [fast | capi]
 //!
 //! The first plays random histories until so many calls are compared, and once the shortest and
-//! the longest image; rows of asks and occupancy pages are compared beside them. The second replays
+//! the longest image of either form; rows of asks and occupancy pages are compared beside them. The second replays
 //! the calls of another model. `capi` is there with the feature of that name, and then is what is
 //! compared.
 
@@ -54,6 +54,8 @@ fn histories(catalogue: &dyn Catalogue, name: &str, calls: u64, seed: u64) {
     let all = follower.compared;
     println!("{name}: {all} calls compared with the model, none differs");
     println!("({ends} of them on the shortest and the longest image)");
+    let (tails, moves) = (follower.tails_compared, follower.moves_compared);
+    println!("({tails} of them tails, {moves} moves between the forms)");
     for (n, calls) in [
         (follower.rows_compared, "rows of asks"),
         (follower.occupancy_compared, "occupancy pages"),

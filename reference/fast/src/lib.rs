@@ -1,16 +1,18 @@
 //! The breadcrumb catalogue in unverified Rust: the yardstick for speed.
 //!
-//! The calls, their answers and the bytes they leave are those of document 01; every bucket
-//! that a call reads is first read whole and found sound. Answers are packed as at the C
-//! boundary: number × 2^56 + value. Indices are not tested at run time (`unsafe`), which stands
-//! for proved bounds. No vector instructions.
+//! The calls, their answers and the bytes they leave are those of documents 01 and 02, without rows
+//! and occupancy pages; every bucket that a call reads is first read whole and found sound. Answers
+//! are packed as at the C boundary: number × 2^56 + value. Indices are not tested at run time
+//! (`unsafe`), which stands for proved bounds. No vector instructions.
 
 mod bits;
 mod bucket;
 mod map;
+mod tail;
 
 use bucket::{Read, BACKYARD_SLOTS, FRONT_SLOTS};
-use map::{Homes, Shape};
+use map::{Fingerprint, Homes, Shape};
+use tail::Tail;
 
 /// A refusal with no table number.
 const fn refused(number: u64) -> u64 {
@@ -33,6 +35,60 @@ unsafe fn at(image: &[u8], table: u32) -> *const u8 {
 unsafe fn at_mut(image: &mut [u8], table: u32) -> *mut u8 {
     debug_assert!(64 * (table as usize + 1) <= image.len());
     image.as_mut_ptr().add(64 * table as usize)
+}
+
+/// Where the tail of an image of the new form begins.
+#[inline(always)]
+unsafe fn tail_at(image: &[u8]) -> *const u8 {
+    debug_assert!(Shape::of_length(image.len()).is_some());
+    image.as_ptr().add(image.len() - 64)
+}
+
+#[inline(always)]
+unsafe fn tail_at_mut(image: &mut [u8]) -> *mut u8 {
+    debug_assert!(Shape::of_length(image.len()).is_some());
+    image.as_mut_ptr().add(image.len() - 64)
+}
+
+/// The shape of an image and its tail, or the refusal with 1 or 11.
+#[inline(always)]
+fn open(image: &[u8]) -> Result<(Shape, Tail), u64> {
+    let Some(shape) = Shape::of_length(image.len()) else {
+        return Err(refused(1));
+    };
+    match unsafe { Tail::read(tail_at(image), shape.slots()) } {
+        Some(tail) => Ok((shape, tail)),
+        None => Err(refused(11)),
+    }
+}
+
+/// The same for an insert or a delete, or the refusal with 1, 11 or 13.
+#[inline(always)]
+fn open_to_change(image: &[u8]) -> Result<(Shape, Tail), u64> {
+    match open(image) {
+        Ok((_, tail)) if tail.changes == u64::MAX => Err(refused(13)),
+        opened => opened,
+    }
+}
+
+/// The last test of an insert: whether the slots allow one more. The tail then has it.
+#[inline(always)]
+unsafe fn count_in(image: &mut [u8], shape: Shape, tail: Tail) -> bool {
+    if tail.total == shape.slots() {
+        return false;
+    }
+    tail.with_one_more().change(tail_at_mut(image));
+    true
+}
+
+/// The last test of a delete: whether there is one to take. The tail is then without it.
+#[inline(always)]
+unsafe fn count_out(image: &mut [u8], tail: Tail) -> bool {
+    if tail.total == 0 {
+        return false;
+    }
+    tail.with_one_less().change(tail_at_mut(image));
+    true
 }
 
 /// Both backyard buckets of a front bucket, read whole, with the members below f's key in each.
@@ -76,16 +132,24 @@ pub fn fresh(image: &mut [u8]) -> u64 {
     let Some(shape) = Shape::of_length(image.len()) else {
         return refused(1);
     };
-    for table in 0..shape.fronts() + shape.backyards() {
-        unsafe { bucket::clear(at_mut(image, table)) };
+    unsafe {
+        for table in 0..shape.fronts() + shape.backyards() {
+            bucket::clear(at_mut(image, table));
+        }
+        let tail = Tail {
+            total: 0,
+            changes: 0,
+        };
+        tail.write(tail_at_mut(image));
     }
     0
 }
 
 #[inline(never)]
 pub fn insert(image: &mut [u8], hash: u64) -> u64 {
-    let Some(shape) = Shape::of_length(image.len()) else {
-        return refused(1);
+    let (shape, tail) = match open_to_change(image) {
+        Ok(opened) => opened,
+        Err(refusal) => return refusal,
     };
     let g = shape.fingerprint(hash);
     unsafe {
@@ -93,25 +157,34 @@ pub fn insert(image: &mut [u8], hash: u64) -> u64 {
         let Some(read) = bucket::read_front(front, g.key) else {
             return unsound(g.front);
         };
-        if read.word >> 63 == 0 {
-            bucket::insert_front(front, read.word, read.below, g.key);
-            return 0;
+        if read.word >> 63 == 1 {
+            return insert_full(image, shape, tail, g, read);
         }
-        insert_full(image, shape, g.front, g.key, read)
+        if !count_in(image, shape, tail) {
+            return refused(12);
+        }
+        bucket::insert_front(front, read.word, read.below, g.key);
+        0
     }
 }
 
 /// An insert where the front bucket holds 28.
 #[inline(always)]
-unsafe fn insert_full(image: &mut [u8], shape: Shape, f: u32, key: u32, read: Read) -> u64 {
+unsafe fn insert_full(
+    image: &mut [u8],
+    shape: Shape,
+    tail: Tail,
+    g: Fingerprint,
+    read: Read,
+) -> u64 {
     // The one that goes behind: the largest of the 28 and the new one.
-    let front = at_mut(image, f);
+    let front = at_mut(image, g.front);
     let overflow = if read.below == FRONT_SLOTS {
-        key
+        g.key
     } else {
         bucket::largest(front, read.word)
     };
-    let behind = match read_behind(image, shape, f, overflow) {
+    let behind = match read_behind(image, shape, g.front, overflow) {
         Ok(behind) => behind,
         Err(refusal) => return refusal,
     };
@@ -122,8 +195,11 @@ unsafe fn insert_full(image: &mut [u8], shape: Shape, f: u32, key: u32, read: Re
     if n0 == BACKYARD_SLOTS && n1 == BACKYARD_SLOTS {
         return refused(4);
     }
+    if !count_in(image, shape, tail) {
+        return refused(12);
+    }
     if read.below < FRONT_SLOTS {
-        bucket::push_front(front, read.word, read.below, key);
+        bucket::push_front(front, read.word, read.below, g.key);
     }
     if n0 < n1 {
         let b = at_mut(image, behind.table0);
@@ -138,8 +214,9 @@ unsafe fn insert_full(image: &mut [u8], shape: Shape, f: u32, key: u32, read: Re
 
 #[inline(never)]
 pub fn delete(image: &mut [u8], hash: u64) -> u64 {
-    let Some(shape) = Shape::of_length(image.len()) else {
-        return refused(1);
+    let (shape, tail) = match open_to_change(image) {
+        Ok(opened) => opened,
+        Err(refusal) => return refusal,
     };
     let g = shape.fingerprint(hash);
     unsafe {
@@ -149,7 +226,10 @@ pub fn delete(image: &mut [u8], hash: u64) -> u64 {
         };
         if bucket::found_front(front, read, g.key) {
             if read.word >> 63 == 1 {
-                return delete_refilled(image, shape, g.front, g.key, read);
+                return delete_refilled(image, shape, tail, g, read);
+            }
+            if !count_out(image, tail) {
+                return refused(12);
             }
             bucket::remove_front(front, read.word, read.below, g.key);
             return 0;
@@ -157,17 +237,26 @@ pub fn delete(image: &mut [u8], hash: u64) -> u64 {
         if read.below < FRONT_SLOTS {
             return refused(5);
         }
-        delete_behind(image, shape, g.front, g.key)
+        delete_behind(image, shape, tail, g)
     }
 }
 
 /// A delete from a front bucket that holds 28.
 #[inline(always)]
-unsafe fn delete_refilled(image: &mut [u8], shape: Shape, f: u32, key: u32, read: Read) -> u64 {
-    let behind = match read_behind(image, shape, f, 0) {
+unsafe fn delete_refilled(
+    image: &mut [u8],
+    shape: Shape,
+    tail: Tail,
+    g: Fingerprint,
+    read: Read,
+) -> u64 {
+    let behind = match read_behind(image, shape, g.front, 0) {
         Ok(behind) => behind,
         Err(refusal) => return refusal,
     };
+    if !count_out(image, tail) {
+        return refused(12);
+    }
     let (b0, b1) = (at(image, behind.table0), at(image, behind.table1));
     let (word0, word1) = (behind.read0.word, behind.read1.word);
     let first = bucket::first_with_crumb(b0, word0, behind.homes.crumb0);
@@ -177,7 +266,7 @@ unsafe fn delete_refilled(image: &mut [u8], shape: Shape, f: u32, key: u32, read
     };
     let from_first = match (first, second) {
         (None, None) => {
-            bucket::remove_front(at_mut(image, f), read.word, read.below, key);
+            bucket::remove_front(at_mut(image, g.front), read.word, read.below, g.key);
             return 0;
         }
         (Some(_), None) => true,
@@ -209,8 +298,8 @@ unsafe fn delete_refilled(image: &mut [u8], shape: Shape, f: u32, key: u32, read
     };
     let refill = key_of(at(image, table), word, slot);
     bucket::remove_backyard(at_mut(image, table), word, slot, refill << 4 | crumb);
-    let front = at_mut(image, f);
-    bucket::remove_front(front, read.word, read.below, key);
+    let front = at_mut(image, g.front);
+    bucket::remove_front(front, read.word, read.below, g.key);
     let rest = bucket::word(front);
     let place = bucket::rank_front(front, rest, refill);
     bucket::insert_front(front, rest, place, refill);
@@ -219,8 +308,8 @@ unsafe fn delete_refilled(image: &mut [u8], shape: Shape, f: u32, key: u32, read
 
 /// A delete of a key above all 28 of its front bucket.
 #[inline(always)]
-unsafe fn delete_behind(image: &mut [u8], shape: Shape, f: u32, key: u32) -> u64 {
-    let behind = match read_behind(image, shape, f, key) {
+unsafe fn delete_behind(image: &mut [u8], shape: Shape, tail: Tail, g: Fingerprint) -> u64 {
+    let behind = match read_behind(image, shape, g.front, g.key) {
         Ok(behind) => behind,
         Err(refusal) => return refusal,
     };
@@ -229,6 +318,9 @@ unsafe fn delete_behind(image: &mut [u8], shape: Shape, f: u32, key: u32) -> u64
     let second = bucket::found_backyard(at(image, behind.table1), behind.read1, behind.key1);
     if !first && !second {
         return refused(5);
+    }
+    if !count_out(image, tail) {
+        return refused(12);
     }
     if first && (!second || bucket::members(word0) > bucket::members(word1)) {
         let b = at_mut(image, behind.table0);
@@ -255,8 +347,9 @@ fn none(reads: u64) -> u64 {
 
 #[inline(never)]
 pub fn ask(image: &[u8], hash: u64) -> u64 {
-    let Some(shape) = Shape::of_length(image.len()) else {
-        return refused(1);
+    let (shape, _) = match open(image) {
+        Ok(opened) => opened,
+        Err(refusal) => return refusal,
     };
     let g = shape.fingerprint(hash);
     unsafe {
@@ -299,8 +392,9 @@ pub fn ask(image: &[u8], hash: u64) -> u64 {
 
 #[inline(never)]
 pub fn count(image: &[u8], hash: u64) -> u64 {
-    let Some(shape) = Shape::of_length(image.len()) else {
-        return refused(1);
+    let (shape, _) = match open(image) {
+        Ok(opened) => opened,
+        Err(refusal) => return refusal,
     };
     let g = shape.fingerprint(hash);
     unsafe {
@@ -353,8 +447,9 @@ unsafe fn gather(image: &[u8], shape: Shape, f: u32, keys: &mut [u32; 72]) -> us
 
 #[inline(never)]
 pub fn page(image: &[u8], start: u64, out: &mut [u64]) -> u64 {
-    let Some(shape) = Shape::of_length(image.len()) else {
-        return refused(1);
+    let (shape, _) = match open(image) {
+        Ok(opened) => opened,
+        Err(refusal) => return refusal,
     };
     let fronts = shape.fronts();
     if start > fronts as u64 {
@@ -414,15 +509,33 @@ pub fn page(image: &[u8], start: u64, out: &mut [u64]) -> u64 {
 
 #[inline(never)]
 pub fn check(image: &[u8]) -> u64 {
-    let Some(shape) = Shape::of_length(image.len()) else {
-        return refused(1);
-    };
+    match open(image) {
+        Ok((shape, tail)) => check_total(image, shape, tail.total),
+        Err(refusal) => refusal,
+    }
+}
+
+/// 0 where the buckets are as they must be and have so many members, or the refusal with 3, 8 or 12.
+#[inline(always)]
+fn check_total(image: &[u8], shape: Shape, total: u64) -> u64 {
+    match check_buckets(image, shape) {
+        Ok(members) if members == total => 0,
+        Ok(_) => refused(12),
+        Err(refusal) => refusal,
+    }
+}
+
+/// How many members there are, or the refusal with 3 or 8. The image may be of either form.
+#[inline(never)]
+fn check_buckets(image: &[u8], shape: Shape) -> Result<u64, u64> {
     let fronts = shape.fronts();
+    let mut members = 0;
     unsafe {
         for f in 0..fronts {
-            if bucket::read_front(at(image, f), 0).is_none() {
-                return unsound(f);
-            }
+            let Some(read) = bucket::read_front(at(image, f), 0) else {
+                return Err(unsound(f));
+            };
+            members += bucket::members(read.word) as u64;
         }
         let mut early = 0;
         let (mut e, mut t) = (0, 0);
@@ -430,8 +543,9 @@ pub fn check(image: &[u8]) -> u64 {
             let b = at(image, fronts + j);
             let valid = shape.valid_at(j, e, t);
             let Some(read) = bucket::read_backyard(b, valid, 0) else {
-                return unsound(fronts + j);
+                return Err(unsound(fronts + j));
             };
+            members += bucket::members(read.word) as u64;
             if early == 0 && !in_turn(image, shape, j, e, t, read.word) {
                 early = refused(8) + (fronts + j) as u64;
             }
@@ -440,7 +554,11 @@ pub fn check(image: &[u8]) -> u64 {
                 (e, t) = (e + 1, 0);
             }
         }
-        early
+        if early == 0 {
+            Ok(members)
+        } else {
+            Err(early)
+        }
     }
 }
 
@@ -474,8 +592,12 @@ pub fn merge(first: &[u8], second: &[u8], target: &mut [u8]) -> u64 {
     if first.len() != second.len() || first.len() != target.len() {
         return refused(2);
     }
-    for source in [first, second] {
-        let refusal = check(source);
+    let totals = match (open(first), open(second)) {
+        (Ok((_, first)), Ok((_, second))) => [first.total, second.total],
+        _ => return refused(11),
+    };
+    for (source, total) in [first, second].into_iter().zip(totals) {
+        let refusal = check_total(source, shape, total);
         if refusal != 0 {
             return refusal;
         }
@@ -490,6 +612,11 @@ pub fn merge(first: &[u8], second: &[u8], target: &mut [u8]) -> u64 {
                 return refused(4);
             }
         }
+        let tail = Tail {
+            total: totals[0] + totals[1],
+            changes: 0,
+        };
+        tail.write(tail_at_mut(target));
     }
     0
 }
@@ -588,4 +715,57 @@ unsafe fn overflow<'a>(
         bucket::insert_backyard(b, word, slot, key);
     }
     true
+}
+
+#[inline(never)]
+pub fn tail(image: &[u8], out: &mut [u64]) -> u64 {
+    let (_, tail) = match open(image) {
+        Ok(opened) => opened,
+        Err(refusal) => return refusal,
+    };
+    let [total, changes, ..] = out else {
+        return refused(7);
+    };
+    (*total, *changes) = (tail.total, tail.changes);
+    0
+}
+
+/// The shape that both images of a move have, or the refusal with 1 or 2.
+#[inline(always)]
+fn one_shape(old: usize, new: usize) -> Result<Shape, u64> {
+    match (Shape::of_body(old), Shape::of_length(new)) {
+        (Some(old), Some(new)) if old.b == new.b => Ok(old),
+        (Some(_), Some(_)) => Err(refused(2)),
+        _ => Err(refused(1)),
+    }
+}
+
+/// The move to the new form.
+#[inline(never)]
+pub fn attach(old: &[u8], target: &mut [u8]) -> u64 {
+    let checked = one_shape(old.len(), target.len()).and_then(|shape| check_buckets(old, shape));
+    let total = match checked {
+        Ok(members) => members,
+        Err(refusal) => return refusal,
+    };
+    unsafe {
+        std::ptr::copy_nonoverlapping(old.as_ptr(), target.as_mut_ptr(), old.len());
+        Tail { total, changes: 0 }.write(tail_at_mut(target));
+    }
+    0
+}
+
+/// The move to the old form.
+#[inline(never)]
+pub fn detach(image: &[u8], target: &mut [u8]) -> u64 {
+    if let Err(refusal) = one_shape(target.len(), image.len()) {
+        return refusal;
+    }
+    let refusal = check(image);
+    if refusal == 0 {
+        unsafe {
+            std::ptr::copy_nonoverlapping(image.as_ptr(), target.as_mut_ptr(), target.len());
+        }
+    }
+    refusal
 }

@@ -1,4 +1,4 @@
-//! Lengths, fingerprints, and the two backyard buckets of a front bucket.
+//! Lengths, slots, fingerprints, and the two backyard buckets of a front bucket.
 
 use crate::bucket::ALL_CRUMBS;
 
@@ -30,8 +30,15 @@ pub struct Homes {
 }
 
 impl Shape {
+    /// The shape of an image of the new form.
     #[inline(always)]
     pub fn of_length(length: usize) -> Option<Shape> {
+        Shape::of_body(length.wrapping_sub(64))
+    }
+
+    /// The shape of an old image, and of a new one without its tail.
+    #[inline(always)]
+    pub fn of_body(length: usize) -> Option<Shape> {
         let b = length.wrapping_sub(448) / 576;
         if b == 0 || b > MOST || b * 576 + 448 != length {
             return None;
@@ -50,6 +57,12 @@ impl Shape {
     #[inline(always)]
     pub fn backyards(self) -> u32 {
         self.b + 7
+    }
+
+    /// The slots of all buckets.
+    #[inline(always)]
+    pub fn slots(self) -> u64 {
+        246 * self.b as u64 + 154
     }
 
     #[inline(always)]

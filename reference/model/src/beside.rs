@@ -271,12 +271,17 @@ mod tests {
                 if !line.is_call() || !beside.is_due(4) {
                     continue;
                 }
-                let mut image = images.image[line.images()[0]].clone();
-                let call = make(&mut beside, &image);
-                met.extend(call.branches(&image));
-                let shape = Shape::of_length(image.len());
-                if let Some(table) = shape.and_then(|shape| beside.table(&call, shape)) {
-                    let at = table as usize * BUCKET;
+                let image = &images.image[line.images()[0]];
+                let call = make(&mut beside, image);
+                met.extend(call.branches(image));
+                let Some(shape) = Shape::of_length(image.len()) else {
+                    continue;
+                };
+                // An unsound bucket, then a bad tail.
+                let table = beside.table(&call, shape);
+                let bucket = table.map(|table| table as usize * BUCKET);
+                for at in bucket.into_iter().chain([shape.old_length()]) {
+                    let mut image = image.clone();
                     image[at..at + BUCKET].fill(0);
                     met.extend(call.branches(&image));
                 }

@@ -1,7 +1,11 @@
 //! The branches of the machine that a call takes, by name.
 //!
-//! The stored calls must take every one of `ALL`, the random rows and occupancy pages every one of
-//! `ROWS` and of `OCCUPANCY`; the stored ones too, but for those of `BEYOND_THREE`.
+//! The stored calls must take every one of `ALL` and of `TAILS`, the random rows and occupancy pages
+//! every one of `ROWS` and of `OCCUPANCY`; the stored ones too, but for those of `BEYOND_THREE`. The
+//! random histories must take every one of `TAILS`.
+
+mod tails;
+pub use tails::TAILS;
 
 use crate::bucket::{Bytes, Member};
 use crate::calls::{self, bag, member, members, read_backyard, read_front, Asked, Bag, Place};
@@ -11,6 +15,7 @@ use crate::shape::{Shape, BACKYARD_SLOTS, BUCKET, FRONT_SLOTS};
 use crate::stored::{row_hashes, Images, Line};
 use std::collections::HashSet;
 use std::ops::Range;
+use tails::{is_wrong, mend};
 
 pub const ALL: &[&str] = &[
     "fresh: 1",
@@ -203,6 +208,10 @@ pub const ROWS: &[&str] = &[
     "row: 10",
     "row: 10, an ask alone is refused",
     "row: 10, an ask alone before the descent is refused",
+    "row: 10 before 11",
+    "row: 11",
+    "row: 11, empty",
+    "row: 11 before 3",
     "row: 3 in front",
     "row: 3 in b0",
     "row: 3 in b1",
@@ -214,6 +223,7 @@ pub const ROWS: &[&str] = &[
     "row: accepted, empty",
     "row: accepted, hundreds",
     "row: accepted, an unsound bucket not read",
+    "row: accepted, wrong total",
     "row: a group of one",
     "row: a group of many",
     "row: a group of many, equal reads",
@@ -235,6 +245,7 @@ pub const ROWS: &[&str] = &[
 /// What a row of three asks never does.
 pub const BEYOND_THREE: &[&str] = &[
     "row: 1, empty",
+    "row: 11, empty",
     "row: accepted, empty",
     "row: accepted, hundreds",
     "row: none, front, first and second in one row",
@@ -243,6 +254,10 @@ pub const BEYOND_THREE: &[&str] = &[
 pub const OCCUPANCY: &[&str] = &[
     "occupancy: 1",
     "occupancy: 1, short output",
+    "occupancy: 11",
+    "occupancy: 11 before 6",
+    "occupancy: 11 before 3",
+    "occupancy: 11 before 7",
     "occupancy: 6",
     "occupancy: 6, the first past the last",
     "occupancy: 6, 24 p above 64 bits",
@@ -262,6 +277,7 @@ pub const OCCUPANCY: &[&str] = &[
     "occupancy: accepted, 1,008 bytes",
     "occupancy: accepted, a longer output",
     "occupancy: accepted, another page unsound",
+    "occupancy: accepted, wrong total",
     "occupancy: the first page of several",
     "occupancy: a later page",
     "occupancy: the last page, 24 lines",
@@ -610,6 +626,13 @@ fn unsound_of(shape: Shape, f: u64, table: u64) -> &'static str {
     }
 }
 
+/// The same image with a good tail.
+fn mended(image: &[u8]) -> Vec<u8> {
+    let mut image = image.to_vec();
+    mend(&mut image);
+    image
+}
+
 fn row(names: &mut Names, image: &[u8], hashes: &[u64]) {
     let Some(shape) = Shape::of_length(image.len()) else {
         names.add("row: 1");
@@ -617,15 +640,22 @@ fn row(names: &mut Names, image: &[u8], hashes: &[u64]) {
     };
     let front = |hash: &u64| Fingerprint::of_hash(*hash, shape).front;
     let fronts: Vec<u64> = hashes.iter().map(front).collect();
-    let asks: Vec<_> = hashes.iter().map(|&hash| calls::ask(image, hash)).collect();
+    let good = mended(image);
+    let asks: Vec<_> = hashes.iter().map(|&hash| calls::ask(&good, hash)).collect();
     let refused = asks.iter().position(Result::is_err);
     if let Some(at) = (1..fronts.len()).find(|&at| fronts[at] < fronts[at - 1]) {
         names.add("row: 10");
+        names.add_if(good != image, "row: 10 before 11");
         names.add_if(refused.is_some(), "row: 10, an ask alone is refused");
         return names.add_if(
             refused.is_some_and(|first| first < at),
             "row: 10, an ask alone before the descent is refused",
         );
+    }
+    if good != image {
+        names.add("row: 11");
+        names.add_if(hashes.is_empty(), "row: 11, empty");
+        return names.add_if(refused.is_some(), "row: 11 before 3");
     }
     if let Some(at) = refused {
         let f = fronts[at];
@@ -646,6 +676,7 @@ fn row(names: &mut Names, image: &[u8], hashes: &[u64]) {
     let asked: Vec<Asked> = asks.into_iter().flatten().collect();
     names.add_if(hashes.is_empty(), "row: accepted, empty");
     names.add_if(hashes.len() >= 200, "row: accepted, hundreds");
+    names.add_if(is_wrong(image), "row: accepted, wrong total");
     let unsound = |&f: &u64| read_front(image, f).is_err() || behind(image, shape, f).unsound();
     names.add_if(
         fronts.iter().any(unsound),
@@ -822,6 +853,14 @@ fn occupancy(names: &mut Names, image: &[u8], page: u64, length: usize) {
         names.add("occupancy: 1");
         return names.add_if(short, "occupancy: 1, short output");
     };
+    let good = mended(image);
+    if good != image {
+        names.add("occupancy: 11");
+        if let Err(next) = calls::occupancy(&good, page, &mut vec![0; length]) {
+            names.add(&format!("occupancy: 11 before {}", next.number));
+        }
+        return;
+    }
     let fronts = shape.fronts();
     let pages = fronts.div_ceil(LINES);
     if page >= pages {
@@ -884,6 +923,7 @@ fn occupancy_lines(names: &mut Names, image: &[u8], shape: Shape, page: Range<u6
         others.any(|f| read_front(image, f).is_err()),
         "occupancy: accepted, another page unsound",
     );
+    names.add_if(is_wrong(image), "occupancy: accepted, wrong total");
     names.add_if(
         page.start == 0 && page.end < fronts,
         "occupancy: the first page of several",
@@ -1169,28 +1209,37 @@ pub fn of_occupancy(image: &[u8], page: u64, length: usize) -> Vec<String> {
     names.names
 }
 
-/// The branches that a line takes on these images. `accepted` tells whether it is accepted.
-pub fn of(images: &Images, line: Line, accepted: bool) -> Vec<String> {
+/// The branches that a line takes on these images. `number` is the one it gives, 0 where accepted.
+pub fn of(images: &Images, line: Line, number: u64) -> Vec<String> {
     let mut names = Names::default();
+    tails::of(&mut names, images, line, number);
+    let is_row_or_page = matches!(line, Line::Row { .. } | Line::Occupancy { .. });
+    if number < 11 || is_row_or_page {
+        on_buckets(&mut names, images, line, number == 0);
+    }
+    names.names
+}
+
+/// The branches of a line that tails have no part in, but for rows and occupancy pages.
+fn on_buckets(names: &mut Names, images: &Images, line: Line, accepted: bool) {
     let image = |x: usize| -> &[u8] { &images.image[x] };
     match line {
         Line::Fresh { x } => names.add(match Shape::of_length(image(x).len()) {
             Some(_) => "fresh: accepted",
             None => "fresh: 1",
         }),
-        Line::Insert { x, hash } => insert(&mut names, image(x), hash),
-        Line::Delete { x, hash } => delete(&mut names, image(x), hash),
-        Line::Ask { x, hash } => ask(&mut names, image(x), hash),
-        Line::Count { x, hash } => count(&mut names, image(x), hash),
-        Line::Page { x, start, length } => page(&mut names, image(x), start, length),
-        Line::Check { x } => check(&mut names, image(x)),
+        Line::Insert { x, hash } => insert(names, image(x), hash),
+        Line::Delete { x, hash } => delete(names, image(x), hash),
+        Line::Ask { x, hash } => ask(names, image(x), hash),
+        Line::Count { x, hash } => count(names, image(x), hash),
+        Line::Page { x, start, length } => page(names, image(x), start, length),
+        Line::Check { x } => check(names, image(x)),
         Line::Merge { x, y, z } => {
             let sources = [image(x), image(y)];
-            merge(&mut names, sources, image(z), x == y, accepted)
+            merge(names, sources, image(z), x == y, accepted)
         }
-        Line::Row { x, hash, step } => row(&mut names, image(x), &row_hashes(hash, step)),
-        Line::Occupancy { x, page, length } => occupancy(&mut names, image(x), page, length),
-        Line::New { .. } | Line::Poke { .. } | Line::Copy { .. } => {}
+        Line::Row { x, hash, step } => row(names, image(x), &row_hashes(hash, step)),
+        Line::Occupancy { x, page, length } => occupancy(names, image(x), page, length),
+        _ => {}
     }
-    names.names
 }

@@ -1,10 +1,11 @@
-//! The eight calls of document 01 on byte slices, and of document 02 the row of asks and the
-//! occupancy page.
+//! The eight calls of document 01 on byte slices, and of document 02 the row of asks, the occupancy
+//! page, the tail's numbers and the moves between the old form and the new.
 
 use crate::bucket::{self, Bytes, Member};
 use crate::fingerprint::Fingerprint;
 use crate::map::Home;
 use crate::shape::{Shape, BACKYARD_SLOTS, BUCKET, FRONT_SLOTS};
+use crate::tail::Tail;
 
 /// A refusal: its number, and the table number that comes with 3 and 8.
 #[derive(Clone, Copy, PartialEq, Eq, Debug)]
@@ -72,11 +73,30 @@ fn refused_at<T>(number: u8, table: u64) -> Result<T, Refusal> {
     })
 }
 
-fn sized(image: &[u8]) -> Result<Shape, Refusal> {
-    match Shape::of_length(image.len()) {
-        Some(shape) => Ok(shape),
-        None => refused(1),
+/// What there is, or else the refusal of this number.
+fn or_refused<T>(found: Option<T>, number: u8) -> Result<T, Refusal> {
+    match found {
+        Some(found) => Ok(found),
+        None => refused(number),
     }
+}
+
+fn sized(image: &[u8]) -> Result<Shape, Refusal> {
+    or_refused(Shape::of_length(image.len()), 1)
+}
+
+fn old_sized(old: &[u8]) -> Result<Shape, Refusal> {
+    or_refused(Shape::of_old_length(old.len()), 1)
+}
+
+fn tailed(image: &[u8], shape: Shape) -> Result<Tail, Refusal> {
+    or_refused(Tail::of_image(image, shape), 11)
+}
+
+/// The shape and the tail of an image, its length tested first.
+fn opened(image: &[u8]) -> Result<(Shape, Tail), Refusal> {
+    let shape = sized(image)?;
+    Ok((shape, tailed(image, shape)?))
 }
 
 fn bytes_at(image: &[u8], table: u64) -> &Bytes {
@@ -106,14 +126,13 @@ pub fn read_backyard(image: &[u8], shape: Shape, j: u64) -> Result<Vec<Member>, 
     }
 }
 
-fn write_front(image: &mut [u8], f: u64, front: &[Fingerprint]) {
-    let members: Vec<Member> = front.iter().map(|g| member(*g, 0)).collect();
-    write_at(image, f, bucket::encode_front(&members));
-}
-
-fn write_backyard(image: &mut [u8], shape: Shape, j: u64, members: &[Member]) {
-    let table = shape.table_number(j);
-    write_at(image, table, bucket::encode_backyard(members));
+/// The members in the bucket with this table number, or nothing where it is unsound.
+pub fn members_at(image: &[u8], shape: Shape, table: u64) -> Option<u64> {
+    let members = match table.checked_sub(shape.fronts()) {
+        Some(j) => read_backyard(image, shape, j).ok()?.len(),
+        None => read_front(image, table).ok()?.len(),
+    };
+    Some(members as u64)
 }
 
 /// A fingerprint as a bucket holds it.
@@ -148,69 +167,115 @@ fn lowest_slot(bag: &[Member], x: Member) -> Option<u64> {
     bag.iter().position(|&y| y == x).map(|slot| slot as u64)
 }
 
-/// Adds g to a bag. The bucket that holds it has room.
-fn add_behind(image: &mut [u8], shape: Shape, home: Home, g: Fingerprint) -> Result<(), Refusal> {
-    let mut members = read_backyard(image, shape, home.bucket)?;
-    members.push(member(g, home.crumb));
-    members.sort();
-    write_backyard(image, shape, home.bucket, &members);
-    Ok(())
-}
-
-/// Takes one copy of g out of a bag that has it.
-fn take_behind(image: &mut [u8], shape: Shape, home: Home, g: Fingerprint) -> Result<(), Refusal> {
-    let mut members = read_backyard(image, shape, home.bucket)?;
-    let slot = lowest_slot(&members, member(g, home.crumb)).unwrap();
-    members.remove(slot as usize);
-    write_backyard(image, shape, home.bucket, &members);
-    Ok(())
-}
-
-/// Every bucket empty.
+/// Every bucket empty, total and change count 0.
 pub fn fresh(image: &mut [u8]) -> Result<(), Refusal> {
     let shape = sized(image)?;
     for f in 0..shape.fronts() {
-        write_front(image, f, &[]);
+        write_at(image, f, bucket::encode_front(&[]));
     }
     for j in 0..shape.backyards() {
-        write_backyard(image, shape, j, &[]);
+        write_at(image, shape.table_number(j), bucket::encode_backyard(&[]));
     }
+    Tail::FRESH.write(image);
     Ok(())
+}
+
+/// What an accepted insert or delete does to the buckets: its answer, and the new bytes of each
+/// bucket that changes, by table number.
+pub struct Change {
+    pub answer: u64,
+    buckets: Vec<(u64, Bytes)>,
+}
+
+impl Change {
+    /// A change of Front(f) alone.
+    fn of_front(f: u64, front: &[Fingerprint]) -> Change {
+        Change {
+            answer: 0,
+            buckets: vec![(f, front_bytes(front))],
+        }
+    }
+
+    /// A change of a backyard bucket.
+    fn of_backyard(shape: Shape, j: u64, members: &[Member]) -> Change {
+        Change {
+            answer: 1 + j,
+            buckets: vec![(shape.table_number(j), bucket::encode_backyard(members))],
+        }
+    }
+
+    /// The same, and a change of Front(f).
+    fn and_front(mut self, f: u64, front: &[Fingerprint]) -> Change {
+        self.buckets.push((f, front_bytes(front)));
+        self
+    }
+
+    /// Makes the change: its answer.
+    fn write(self, image: &mut [u8]) -> u64 {
+        for (table, bytes) in self.buckets {
+            write_at(image, table, bytes);
+        }
+        self.answer
+    }
+}
+
+fn front_bytes(front: &[Fingerprint]) -> Bytes {
+    let members: Vec<Member> = front.iter().map(|&g| member(g, 0)).collect();
+    bucket::encode_front(&members)
 }
 
 /// The answer is 0, or 1 + the backyard bucket that took the overflow.
 pub fn insert(image: &mut [u8], hash: u64) -> Result<u64, Refusal> {
-    let shape = sized(image)?;
-    insert_fingerprint(image, shape, Fingerprint::of_hash(hash, shape))
+    let (shape, tail) = opened(image)?;
+    let changes = or_refused(tail.changes.checked_add(1), 13)?;
+    let change = inserted(image, shape, Fingerprint::of_hash(hash, shape))?;
+    if tail.total == shape.slots() {
+        return refused(12);
+    }
+    let total = tail.total + 1;
+    Tail { total, changes }.write(image);
+    Ok(change.write(image))
 }
 
-fn insert_fingerprint(image: &mut [u8], shape: Shape, g: Fingerprint) -> Result<u64, Refusal> {
+/// An insert as far as the buckets go.
+pub fn inserted(image: &[u8], shape: Shape, g: Fingerprint) -> Result<Change, Refusal> {
     let f = g.front;
     let mut front = read_front(image, f)?;
     let was_full = front.len() == FRONT_SLOTS;
     front.push(g);
     front.sort();
     if !was_full {
-        write_front(image, f, &front);
-        return Ok(0);
+        return Ok(Change::of_front(f, &front));
     }
     let (first, second) = (shape.first_home(f), shape.second_home(f));
-    let n0 = read_backyard(image, shape, first.bucket)?.len();
-    let n1 = read_backyard(image, shape, second.bucket)?.len();
+    let bucket0 = read_backyard(image, shape, first.bucket)?;
+    let bucket1 = read_backyard(image, shape, second.bucket)?;
+    let (n0, n1) = (bucket0.len(), bucket1.len());
     if n0 == BACKYARD_SLOTS && n1 == BACKYARD_SLOTS {
         return refused(4);
     }
     let largest = front.pop().unwrap();
-    let home = if n0 < n1 { first } else { second };
-    add_behind(image, shape, home, largest)?;
-    write_front(image, f, &front);
-    Ok(1 + home.bucket)
+    let (home, mut members) = match n0 < n1 {
+        true => (first, bucket0),
+        false => (second, bucket1),
+    };
+    members.push(member(largest, home.crumb));
+    members.sort();
+    Ok(Change::of_backyard(shape, home.bucket, &members).and_front(f, &front))
 }
 
 /// The answer is 0, or 1 + the backyard bucket that a member left.
 pub fn delete(image: &mut [u8], hash: u64) -> Result<u64, Refusal> {
-    let shape = sized(image)?;
-    let g = Fingerprint::of_hash(hash, shape);
+    let (shape, tail) = opened(image)?;
+    let changes = or_refused(tail.changes.checked_add(1), 13)?;
+    let change = deleted(image, shape, Fingerprint::of_hash(hash, shape))?;
+    let total = or_refused(tail.total.checked_sub(1), 12)?;
+    Tail { total, changes }.write(image);
+    Ok(change.write(image))
+}
+
+/// A delete as far as the buckets go.
+pub fn deleted(image: &[u8], shape: Shape, g: Fingerprint) -> Result<Change, Refusal> {
     let f = g.front;
     let mut front = read_front(image, f)?;
     let was_full = front.len() == FRONT_SLOTS;
@@ -224,8 +289,7 @@ pub fn delete(image: &mut [u8], hash: u64) -> Result<u64, Refusal> {
         front.remove(slot);
     }
     if !was_full {
-        write_front(image, f, &front);
-        return Ok(0);
+        return Ok(Change::of_front(f, &front));
     }
     let (home0, home1) = (shape.first_home(f), shape.second_home(f));
     let bucket0 = read_backyard(image, shape, home0.bucket)?;
@@ -240,23 +304,29 @@ pub fn delete(image: &mut [u8], hash: u64) -> Result<u64, Refusal> {
         Some(g)
     };
     let Some(wanted) = wanted else {
-        write_front(image, f, &front);
-        return Ok(0);
+        return Ok(Change::of_front(f, &front));
     };
-    let home = match (first.contains(&wanted), second.contains(&wanted)) {
+    let (home, members) = match (first.contains(&wanted), second.contains(&wanted)) {
         (false, false) => return refused(5),
-        (true, false) => home0,
-        (false, true) => home1,
-        (true, true) if n0 > n1 => home0,
-        (true, true) => home1,
+        (true, false) => (home0, bucket0),
+        (false, true) => (home1, bucket1),
+        (true, true) if n0 > n1 => (home0, bucket0),
+        (true, true) => (home1, bucket1),
     };
-    take_behind(image, shape, home, wanted)?;
-    if in_front {
-        front.push(wanted);
-        front.sort();
-        write_front(image, f, &front);
+    let change = taken(shape, home, members, wanted);
+    if !in_front {
+        return Ok(change);
     }
-    Ok(1 + home.bucket)
+    front.push(wanted);
+    front.sort();
+    Ok(change.and_front(f, &front))
+}
+
+/// One copy of g leaves a bag that has it, one of those in a backyard bucket with these members.
+fn taken(shape: Shape, home: Home, mut members: Vec<Member>, g: Fingerprint) -> Change {
+    let slot = lowest_slot(&members, member(g, home.crumb)).unwrap();
+    members.remove(slot as usize);
+    Change::of_backyard(shape, home.bucket, &members)
 }
 
 /// The answer of an ask that ended in this bag, with the copies of g there, whatever other bags
@@ -274,7 +344,7 @@ fn ended(reads: u64, place: Place, bag: &[Fingerprint], g: Fingerprint) -> Asked
 }
 
 pub fn ask(image: &[u8], hash: u64) -> Result<Asked, Refusal> {
-    let shape = sized(image)?;
+    let (shape, _) = opened(image)?;
     let g = Fingerprint::of_hash(hash, shape);
     let f = g.front;
     let front = read_front(image, f)?;
@@ -309,6 +379,7 @@ pub fn row(image: &[u8], hashes: &[u64]) -> Result<Rowed, Refusal> {
     if fronts.windows(2).any(|pair| pair[1] < pair[0]) {
         return refused(10);
     }
+    tailed(image, shape)?;
     let mut asked = Vec::new();
     for &hash in hashes {
         asked.push(ask(image, hash)?);
@@ -324,7 +395,7 @@ pub fn row(image: &[u8], hashes: &[u64]) -> Result<Rowed, Refusal> {
 }
 
 pub fn count(image: &[u8], hash: u64) -> Result<Counted, Refusal> {
-    let shape = sized(image)?;
+    let (shape, _) = opened(image)?;
     let g = Fingerprint::of_hash(hash, shape);
     let f = g.front;
     let front = read_front(image, f)?;
@@ -364,7 +435,7 @@ pub fn members(image: &[u8], shape: Shape, f: u64) -> Result<Bag, Refusal> {
 
 /// Lists whole front buckets from `start` on as far as they fit into the output.
 pub fn page(image: &[u8], start: u64, out: &mut [u64]) -> Result<Paged, Refusal> {
-    let shape = sized(image)?;
+    let (shape, _) = opened(image)?;
     if start > shape.fronts() {
         return refused(6);
     }
@@ -398,7 +469,7 @@ fn occupancy_line(image: &[u8], shape: Shape, f: u64) -> Result<String, Refusal>
 
 /// Writes the lines of 24 front buckets, blank ones past the last.
 pub fn occupancy(image: &[u8], page: u64, out: &mut [u8]) -> Result<(), Refusal> {
-    let shape = sized(image)?;
+    let (shape, _) = opened(image)?;
     // 24 × page >= F, without a product that may be too large.
     if page >= shape.fronts().div_ceil(LINES) {
         return refused(6);
@@ -420,7 +491,21 @@ pub fn occupancy(image: &[u8], page: u64, out: &mut [u8]) -> Result<(), Refusal>
 }
 
 pub fn check(image: &[u8]) -> Result<(), Refusal> {
-    let shape = sized(image)?;
+    let (shape, tail) = opened(image)?;
+    checked(image, shape, tail)
+}
+
+/// The buckets are as they must be, and have as many members as the tail tells.
+fn checked(image: &[u8], shape: Shape, tail: Tail) -> Result<(), Refusal> {
+    match checked_buckets(image, shape)? == tail.total {
+        true => Ok(()),
+        false => refused(12),
+    }
+}
+
+/// All buckets are sound, and no member of a backyard bucket is before its turn: the members in all
+/// buckets.
+fn checked_buckets(image: &[u8], shape: Shape) -> Result<u64, Refusal> {
     let mut fronts = Vec::new();
     for f in 0..shape.fronts() {
         fronts.push(read_front(image, f)?);
@@ -439,29 +524,70 @@ pub fn check(image: &[u8]) -> Result<(), Refusal> {
             }
         }
     }
-    Ok(())
+    let in_front: usize = fronts.iter().map(Vec::len).sum();
+    let behind: usize = backyards.iter().map(Vec::len).sum();
+    Ok((in_front + behind) as u64)
 }
 
 pub fn merge(first: &[u8], second: &[u8], target: &mut [u8]) -> Result<(), Refusal> {
     let shape = sized(first)?;
-    sized(second)?;
-    sized(target)?;
-    if first.len() != second.len() || first.len() != target.len() {
+    let others = [sized(second)?, sized(target)?];
+    if others != [shape; 2] {
         return refused(2);
     }
-    check(first)?;
-    check(second)?;
+    let (tail0, tail1) = (tailed(first, shape)?, tailed(second, shape)?);
+    checked(first, shape, tail0)?;
+    checked(second, shape, tail1)?;
     fresh(target)?;
     for f in 0..shape.fronts() {
         for source in [first, second] {
             for g in members(source, shape, f)? {
-                if let Err(full) = insert_fingerprint(target, shape, g) {
-                    fresh(target)?;
-                    return Err(full);
-                }
+                match inserted(target, shape, g) {
+                    Ok(change) => change.write(target),
+                    Err(full) => {
+                        fresh(target)?;
+                        return Err(full);
+                    }
+                };
             }
         }
     }
+    let total = tail0.total + tail1.total;
+    Tail { total, changes: 0 }.write(target);
+    Ok(())
+}
+
+/// Writes the total, then the change count.
+pub fn tail(image: &[u8], out: &mut [u64]) -> Result<(), Refusal> {
+    let (_, tail) = opened(image)?;
+    let [total, changes, ..] = out else {
+        return refused(7);
+    };
+    (*total, *changes) = (tail.total, tail.changes);
+    Ok(())
+}
+
+/// The move to the new form: the old bytes, then a tail with the members, change count 0.
+pub fn attach(old: &[u8], target: &mut [u8]) -> Result<(), Refusal> {
+    let shape = old_sized(old)?;
+    if sized(target)? != shape {
+        return refused(2);
+    }
+    let total = checked_buckets(old, shape)?;
+    target[..old.len()].copy_from_slice(old);
+    Tail { total, changes: 0 }.write(target);
+    Ok(())
+}
+
+/// The move to the old form: the bytes before the tail.
+pub fn detach(image: &[u8], target: &mut [u8]) -> Result<(), Refusal> {
+    let shape = sized(image)?;
+    if old_sized(target)? != shape {
+        return refused(2);
+    }
+    let tail = tailed(image, shape)?;
+    checked(image, shape, tail)?;
+    target.copy_from_slice(&image[..shape.old_length()]);
     Ok(())
 }
 
@@ -620,5 +746,219 @@ mod tests {
             assert_eq!(refusal(&image, 1, 1008), (6, None));
         }
         assert_eq!(refusal(&image[1..], 1, 0), (1, None));
+    }
+
+    /// Total and change count.
+    fn told(image: &[u8]) -> (u64, u64) {
+        let mut out = [7; 3];
+        tail(image, &mut out).unwrap();
+        assert_eq!(out[2], 7);
+        (out[0], out[1])
+    }
+
+    /// The image with this total and this change count.
+    fn with(mut image: Vec<u8>, total: u64, changes: u64) -> Vec<u8> {
+        Tail { total, changes }.write(&mut image);
+        image
+    }
+
+    #[test]
+    fn totals_and_change_counts() {
+        let mut image = image();
+        assert_eq!(told(&image), (80, 80));
+        delete(&mut image, hash(13, 39)).unwrap();
+        assert_eq!(told(&image), (79, 81));
+        assert!(delete(&mut image, hash(13, 39)).is_err());
+        assert_eq!(told(&image), (79, 81));
+        let mut target = vec![7; image.len()];
+        merge(&image, &fresh_image(3), &mut target).unwrap();
+        assert_eq!((told(&target), check(&target)), ((79, 0), Ok(())));
+        // Together too many: the target is fresh, its tail too.
+        let full = merge(&image, &image, &mut target).unwrap_err();
+        assert_eq!((full.number, target), (4, fresh_image(3)));
+        for short in [0, 1] {
+            let refusal = tail(&image, &mut vec![7; short]).unwrap_err();
+            assert_eq!(refusal.number, 7);
+        }
+    }
+
+    /// The number of a change, and that a refused one keeps every byte.
+    fn change(image: &[u8], call: fn(&mut [u8], u64) -> Result<u64, Refusal>, hash: u64) -> u8 {
+        let mut after = image.to_vec();
+        let Err(refusal) = call(&mut after, hash) else {
+            return 0;
+        };
+        assert_eq!(after, image);
+        refusal.number
+    }
+
+    #[test]
+    fn order_of_a_change() {
+        let (slots, top) = (SHAPE.slots(), u64::MAX);
+        // 13 has 28 in front and 12 behind, 18 too; 5 is empty.
+        let (front, behind, absent) = (hash(13, 0), hash(13, 39), hash(5, 0));
+        // The numbers of an insert, a delete, one of an absent value, and of both on an unsound
+        // bucket.
+        for (total, changes, numbers) in [
+            (0, 0, [0, 12, 5, 3]),
+            (1, top - 1, [0, 0, 5, 3]),
+            (slots - 1, 0, [0, 0, 5, 3]),
+            (slots, 0, [12, 0, 5, 3]),
+            (slots, top, [13; 4]),
+            (0, top, [13; 4]),
+            (slots + 1, top, [11; 4]),
+        ] {
+            let image = with(image(), total, changes);
+            let number = |call, hash| change(&image, call, hash);
+            for hash in [front, behind] {
+                assert_eq!([number(insert, hash), number(delete, hash)], numbers[..2]);
+            }
+            assert_eq!(number(delete, absent), numbers[2]);
+            let mut unsound = image.clone();
+            unsound[13 * BUCKET] ^= 1;
+            assert_eq!(change(&unsound, insert, front), numbers[3]);
+            assert_eq!(change(&unsound, delete, front), numbers[3]);
+        }
+        // Both backyard buckets of 13 hold 22.
+        let mut full = image();
+        while insert(&mut full, front).is_ok() {}
+        for (changes, number) in [(0, 4), (top - 1, 4), (top, 13)] {
+            let image = with(full.clone(), slots, changes);
+            assert_eq!(change(&image, insert, front), number);
+        }
+    }
+
+    #[test]
+    fn order_of_a_merge() {
+        let good = fresh_image(3);
+        let mut bad = good.clone();
+        bad[SHAPE.old_length() + 16] = 2;
+        let mut unsound = good.clone();
+        unsound[0] ^= 1;
+        let mut early = good.clone();
+        let one = [Member {
+            mini: 0,
+            tag: 0,
+            crumb: 0,
+        }];
+        write_at(&mut early, 24, bucket::encode_backyard(&one));
+        let wrong = with(good.clone(), 1, 0);
+        let other = fresh_image(2);
+        let cut = &good[1..];
+        let images: [(&[u8], [u8; 7]); 7] = [
+            // The number with each as the second: good, wrong, early, unsound, bad, other, cut.
+            (&good, [0, 12, 8, 3, 11, 2, 1]),
+            (&wrong, [12, 12, 12, 12, 11, 2, 1]),
+            (&early, [8, 8, 8, 8, 11, 2, 1]),
+            (&unsound, [3, 3, 3, 3, 11, 2, 1]),
+            (&bad, [11, 11, 11, 11, 11, 2, 1]),
+            (&other, [2, 2, 2, 2, 2, 2, 1]),
+            (cut, [1; 7]),
+        ];
+        for (first, numbers) in &images {
+            for ((second, _), number) in images.iter().zip(numbers) {
+                let mut target = bad.clone();
+                let refusal = merge(first, second, &mut target).err();
+                assert_eq!(refusal.map_or(0, |refusal| refusal.number), *number);
+                assert!(*number == 0 || target == bad);
+            }
+        }
+        let refusal = merge(&good, &other, &mut bad[1..]).unwrap_err();
+        assert_eq!(refusal.number, 1);
+    }
+
+    #[test]
+    fn old_new_old() {
+        let image = image();
+        let (mut old, mut new, mut again) = (vec![7; 2176], vec![7; 2240], vec![7; 2176]);
+        detach(&image, &mut old).unwrap();
+        assert_eq!(old, image[..2176]);
+        attach(&old, &mut new).unwrap();
+        assert_eq!(new, with(image.clone(), 80, 0));
+        detach(&new, &mut again).unwrap();
+        assert_eq!(again, old);
+    }
+
+    /// The number of a move, and that a refused one keeps the target.
+    fn moved(
+        call: fn(&[u8], &mut [u8]) -> Result<(), Refusal>,
+        source: &[u8],
+        length: usize,
+    ) -> (u8, Option<u64>) {
+        let mut target = vec![7; length];
+        let Err(refusal) = call(source, &mut target) else {
+            return (0, None);
+        };
+        assert_eq!(target, vec![7; length]);
+        (refusal.number, refusal.table)
+    }
+
+    #[test]
+    fn order_of_moves() {
+        let image = image();
+        let mut early = image.clone();
+        write_at(&mut early, 13, bucket::encode_front(&[]));
+        let mut unsound = early.clone();
+        unsound[64 * 33 + 63] = 1;
+        for (source, refusal) in [
+            (&image, (0, None)),
+            (&early, (8, Some(25))),
+            (&unsound, (3, Some(33))),
+        ] {
+            let old = &source[..2176];
+            assert_eq!(moved(attach, old, 2240), refusal);
+            for (length, number) in [(1664, 2), (2816, 2), (2176, 1), (2239, 1), (0, 1)] {
+                assert_eq!(moved(attach, old, length), (number, None));
+            }
+            assert_eq!(moved(attach, source, 2240), (1, None));
+            assert_eq!(moved(detach, old, 2176), (1, None));
+            let right = if refusal.0 == 0 { 80 } else { 52 };
+            assert_eq!(
+                moved(detach, &with(source.clone(), right, 9), 2176),
+                refusal
+            );
+            let wrong = if refusal.0 == 0 { (12, None) } else { refusal };
+            assert_eq!(moved(detach, &with(source.clone(), 7, 9), 2176), wrong);
+            let bad = with(source.clone(), 893, 9);
+            assert_eq!(moved(detach, &bad, 2176), (11, None));
+            for (length, number) in [(1600, 2), (2752, 2), (2240, 1), (2175, 1), (0, 1)] {
+                assert_eq!(moved(detach, &bad, length), (number, None));
+            }
+        }
+    }
+
+    #[test]
+    fn a_bad_tail_and_what_reads() {
+        let good = image();
+        let mut bad = good.clone();
+        bad[SHAPE.old_length() + 63] = 1;
+        let mut unsound = bad.clone();
+        unsound[64 * 13] ^= 1;
+        let (low, high) = (hash(13, 0), hash(18, 0));
+        let row_of = |image: &[u8], hashes: &[u64]| row(image, hashes).err().map(|why| why.number);
+        for image in [&bad, &unsound] {
+            assert_eq!(ask(image, low).unwrap_err().number, 11);
+            assert_eq!(count(image, low).unwrap_err().number, 11);
+            assert_eq!(check(image).unwrap_err().number, 11);
+            assert_eq!(tail(image, &mut []).unwrap_err().number, 11);
+            for start in [13, 25] {
+                assert_eq!(page(image, start, &mut []).unwrap_err().number, 11);
+            }
+            for page in [0, 1] {
+                assert_eq!(occupancy(image, page, &mut []).unwrap_err().number, 11);
+            }
+            assert_eq!(row_of(image, &[low, high]), Some(11));
+            assert_eq!(row_of(image, &[]), Some(11));
+            assert_eq!(row_of(image, &[high, low]), Some(10));
+        }
+        // A wrong total, at the top change count.
+        let wrong = with(good.clone(), 0, u64::MAX);
+        assert_eq!(ask(&wrong, low), ask(&good, low));
+        assert_eq!(count(&wrong, low), count(&good, low));
+        assert_eq!(row(&wrong, &[low, high]), row(&good, &[low, high]));
+        assert_eq!(lines(&wrong, 0), lines(&good, 0));
+        assert_eq!(check(&wrong).unwrap_err().number, 12);
+        assert_eq!(check(&wrong).unwrap_err().table, None);
+        assert_eq!(check(&with(good, 80, u64::MAX)), Ok(()));
     }
 }

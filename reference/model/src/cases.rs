@@ -1,6 +1,8 @@
 //! The calls that are stored for the program `trial`: document 01's cases one by one, then
 //! short random histories, then rows of three asks, then occupancy pages, then asks where copies
-//! stand. Always the same lines.
+//! stand, then tails and moves. Always the same lines.
+
+mod tails;
 
 use crate::bucket::{encode_backyard, encode_front, Member};
 use crate::fingerprint::Fingerprint;
@@ -12,10 +14,12 @@ use crate::stored::{Images, Line, Step};
 use std::collections::BTreeSet;
 
 /// No image that is stored is longer; B is at most 21.
-pub const LONGEST_IMAGE: usize = 12800;
-/// No output of a page that is stored has more entries, of an occupancy page more bytes.
+pub const LONGEST_IMAGE: usize = 12864;
+/// No output of a page that is stored has more entries, of an occupancy page more bytes, of a tail
+/// more entries.
 pub const LONGEST_OUTPUT: usize = 512;
 pub const LONGEST_OCCUPANCY: usize = 1040;
+pub const LONGEST_TAIL: usize = 4;
 
 fn g(front: u64, mini: u64, tag: u64) -> Fingerprint {
     Fingerprint { front, mini, tag }
@@ -41,13 +45,19 @@ fn both(mut some: Vec<Member>, more: Vec<Member>) -> Vec<Member> {
     some
 }
 
+/// An image of zero bytes, but for the layout of its tail.
+fn zeros(p: &mut Player, x: usize, b: u64) {
+    p.new_image(x, Shape { b }.length());
+    p.put_tail_byte(x, 16, 1);
+}
+
 /// The examples in the table of numbers.
 fn numbers(p: &mut Player) {
-    p.play(Line::New { x: 0, length: 1023 });
+    p.new_image(0, 1087);
     p.play(Line::Fresh { x: 0 });
-    p.play(Line::New { x: 0, length: 1024 });
-    p.play(Line::New { x: 1, length: 1600 });
-    p.play(Line::New { x: 2, length: 1024 });
+    zeros(p, 0, 1);
+    zeros(p, 1, 2);
+    zeros(p, 2, 1);
     p.merge(0, 1, 2);
     p.merge(0, 2, 1);
     for hash in [0, u64::MAX, 0x8000000040000007] {
@@ -74,8 +84,8 @@ fn numbers(p: &mut Player) {
     p.play(Line::Fresh { x: 0 });
     p.put_backyard(0, 0, vec![member(0, 0, 1)]);
     p.check(0);
-    p.play(Line::New { x: 1, length: 1024 });
-    p.play(Line::New { x: 2, length: 1024 });
+    zeros(p, 1, 1);
+    zeros(p, 2, 1);
     p.merge(0, 1, 2);
 }
 
@@ -83,8 +93,11 @@ fn numbers(p: &mut Player) {
 fn lengths(p: &mut Player) {
     p.fresh(0, 1);
     p.fresh(2, 1);
-    for length in [0, 1, 447, 448, 449, 576, 1023, 1025, 1599, 1601, 11967] {
-        p.play(Line::New { x: 1, length });
+    // 448, 1,024 and 11,968 are 64 short of a good length, the last two old images.
+    for length in [
+        0, 1, 448, 511, 512, 513, 640, 1024, 1087, 1089, 1663, 1665, 11968, 12031,
+    ] {
+        p.new_image(1, length);
         p.play(Line::Fresh { x: 1 });
         p.check(1);
         for hash in [0, u64::MAX] {
@@ -95,17 +108,18 @@ fn lengths(p: &mut Player) {
         }
         p.page(1, 0, 3);
         p.page(1, 99, 3);
+        p.tail(1, 2);
         for (x, y, z) in [(0, 0, 1), (0, 1, 2), (1, 0, 2), (1, 1, 2)] {
             p.merge(x, y, z);
         }
     }
     // 1 before 2: the target's length is wrong, the sources differ.
-    p.play(Line::New { x: 1, length: 1600 });
-    p.play(Line::New { x: 2, length: 1599 });
+    zeros(p, 1, 2);
+    p.new_image(2, 1663);
     p.merge(0, 1, 2);
     p.merge(1, 0, 2);
     // 2 before 3: the differing source is unsound.
-    p.play(Line::New { x: 2, length: 1600 });
+    zeros(p, 2, 2);
     p.merge(0, 1, 2);
     p.merge(1, 2, 0);
     p.merge(1, 0, 2);
@@ -180,12 +194,13 @@ fn larger(p: &mut Player) {
 /// Every rule of an insert into a full front bucket.
 fn inserts(p: &mut Player) {
     let f = 13;
+    p.fresh(1, 3);
+    p.put_front(1, f, full_front());
     for (n0, n1) in [(0, 0), (3, 4), (4, 3), (5, 22), (22, 5), (21, 21), (22, 22)] {
+        p.put_backyard(1, 1, overflow(n0, 5));
+        p.put_backyard(1, 5, overflow(n1, 9));
         for new in [50, 250, 370, 371, 65535] {
-            p.fresh(0, 3);
-            p.put_front(0, f, full_front());
-            p.put_backyard(0, 1, overflow(n0, 5));
-            p.put_backyard(0, 5, overflow(n1, 9));
+            p.copy(1, 0);
             p.insert(0, g(f, 5, new));
         }
         p.check(0);
@@ -218,6 +233,8 @@ fn deletes(p: &mut Player) {
     let value = |tag, crumb| member(5, tag, crumb);
     // n0 and n1 are brought about by members of other front buckets (12 in b0, 9 .. in b1).
     let others = |n, crumb| overflow(n, crumb);
+    p.fresh(2, 3);
+    p.put_front(2, f, full_front());
     let b0_cases = [vec![], vec![400], vec![400, 410], vec![410]];
     for tags0 in &b0_cases {
         for tags1 in &b0_cases {
@@ -227,12 +244,11 @@ fn deletes(p: &mut Player) {
                 }
                 let bag0: Vec<Member> = tags0.iter().map(|&t| value(t, 5)).collect();
                 let bag1: Vec<Member> = tags1.iter().map(|&t| value(t, 9)).collect();
-                p.fresh(0, 3);
-                p.put_front(0, f, full_front());
+                p.copy(2, 0);
                 let (more0, more1) = (n0 - bag0.len() as u64, n1 - bag1.len() as u64);
                 p.put_backyard(0, 1, both(bag0, others(more0, 4)));
                 p.put_backyard(0, 5, both(bag1, others(more1, 8)));
-                p.play(Line::Copy { x: 0, y: 1 });
+                p.copy(0, 1);
                 p.delete(0, g(f, 5, 200));
                 p.delete(1, g(f, 5, 400));
                 p.delete(1, g(f, 5, 400));
@@ -347,7 +363,7 @@ fn pages(p: &mut Player) {
     }
     p.page(0, u64::MAX, 5);
     p.page(0, 1 << 32, 5);
-    p.play(Line::Copy { x: 0, y: 1 });
+    p.copy(0, 1);
     // An unsound b1 of front bucket 13, then also front bucket 14: 29 comes first.
     p.put_byte(0, 29, 63, 4);
     for table in [0, 14, 25, 5, 3] {
@@ -395,18 +411,18 @@ fn unsound_buckets(p: &mut Player) {
         (25, 63, 0x80), // byte 63
         (25, 4, 0xFF),  // too many ones
         (25, 4, 0x00),  // too few ones
-        (33, 63, 1),    // the last byte of the image
+        (33, 63, 1),    // the last byte before the tail
         (32, 8, 1),     // an idle bucket
     ];
     for &(table, at, value) in edits {
-        p.play(Line::Copy { x: 1, y: 0 });
+        p.copy(1, 0);
         p.put_byte(0, table, at, value);
         p.check(0);
         p.look(0, g(f, 5, 400));
         p.look(0, g(14, 5, 100));
     }
     for table in [0, 12, 13, 23, 24, 25, 33] {
-        p.play(Line::Copy { x: 1, y: 0 });
+        p.copy(1, 0);
         p.put(0, table, [0; 64]);
         p.check(0);
         p.look(0, g(f, 5, 400));
@@ -415,7 +431,7 @@ fn unsound_buckets(p: &mut Player) {
     let mut many: Vec<Member> = (0..28).map(|i: u64| member(5 + i % 3, 400, 5)).collect();
     many.sort();
     for n in [22, 23, 28] {
-        p.play(Line::Copy { x: 1, y: 0 });
+        p.copy(1, 0);
         let mut bytes = encode_backyard(&many[..22]);
         bytes[..8].copy_from_slice(&encode_front(&many[..n])[..8]);
         p.put(0, 25, bytes);
@@ -426,12 +442,13 @@ fn unsound_buckets(p: &mut Player) {
     }
     // Valid and invalid crumbs in every backyard bucket.
     for b in [1, 2, 3, 8] {
+        p.fresh(0, b);
         for j in 0..b + 7 {
             for crumb in [0, 3, 7, 8, 10, 15] {
-                p.fresh(0, b);
                 p.put_backyard(0, j, vec![member(35, 65535, crumb)]);
                 p.check(0);
             }
+            p.put_backyard(0, j, vec![]);
         }
     }
 }
@@ -466,7 +483,7 @@ fn merges(p: &mut Player) {
     // Neither, one, the other, both; room and overflow.
     p.fresh(0, 3);
     p.fresh(1, 3);
-    p.play(Line::New { x: 2, length: 2176 });
+    p.new_image(2, 2240);
     let some = |n| full_front()[..n].to_vec();
     for (f, n, m) in [
         (0, 3, 0),
@@ -600,7 +617,7 @@ fn rows(p: &mut Player) {
     p.put_backyard(1, 5, vec![member(29, tag, 9), member(31, tag, 9)]);
     p.put_backyard(1, 6, vec![member(29, tag, 9)]);
     p.check(1);
-    p.play(Line::Copy { x: 1, y: 0 });
+    p.copy(1, 0);
     // One group: front bucket 13, by mini-bucket and how far apart.
     for (mini, minis) in [
         (0, 1),   // front, front, front
@@ -639,7 +656,7 @@ fn rows(p: &mut Player) {
 /// Rows on the same image with an unsound bucket, and on wrong lengths.
 fn refused_rows(p: &mut Player) {
     for table in [24 + 5, 24 + 1, 14, 13] {
-        p.play(Line::Copy { x: 1, y: 0 });
+        p.copy(1, 0);
         p.put_byte(0, table, 0, 0);
         for (half, halves, mini, minis) in [
             (26, 0, 27, 1),  // front, first, second of 13
@@ -652,8 +669,8 @@ fn refused_rows(p: &mut Player) {
             ask_row(p, half, mini, 400, halves, minis);
         }
     }
-    for length in [0, 1023, 2175] {
-        p.play(Line::New { x: 0, length });
+    for length in [0, 1024, 2239] {
+        p.new_image(0, length);
         for (hash, front) in [(0, 0), (u64::MAX, 1)] {
             let step = Step { mini: 1, front };
             p.play(Line::Row { x: 0, hash, step });
@@ -684,7 +701,7 @@ fn occupancy_pages(p: &mut Player) {
     p.put_backyard(1, 1, both(nine, both(overflow(4, 3), overflow(9, 5))));
     p.put_backyard(1, 4, both(overflow(2, 8), overflow(6, 9)));
     p.put_backyard(1, 5, both(overflow(1, 8), overflow(5, 9)));
-    p.play(Line::Copy { x: 1, y: 0 });
+    p.copy(1, 0);
     for length in [1008, 0, 1, 500, 1007, 1009, LONGEST_OCCUPANCY] {
         occupancy(p, 0, length);
         occupancy(p, 1, length);
@@ -692,7 +709,7 @@ fn occupancy_pages(p: &mut Player) {
     far_pages(p);
     refused_occupancy(p);
     // 44 behind 13, and one less.
-    p.play(Line::Copy { x: 1, y: 0 });
+    p.copy(1, 0);
     p.put_backyard(0, 1, overflow(22, 5));
     p.put_backyard(0, 5, overflow(22, 9));
     occupancy(p, 0, 1008);
@@ -732,7 +749,7 @@ fn refused_occupancy(p: &mut Player) {
         }
     }
     // Behind 4 and 6, which have room: not read.
-    p.play(Line::Copy { x: 1, y: 0 });
+    p.copy(1, 0);
     p.put_front(0, 0, vec![]);
     for table in [24, 24 + 6, 24 + 9] {
         p.put_byte(0, table, 0, 0);
@@ -740,8 +757,8 @@ fn refused_occupancy(p: &mut Player) {
     }
     p.put_front(0, 4, full_front());
     occupancy(p, 0, 1008);
-    for length in [0, 1023, 2175, 2177] {
-        p.play(Line::New { x: 0, length });
+    for length in [0, 1024, 2239, 2241] {
+        p.new_image(0, length);
         for (page, length) in [(0, 1008), (0, 1007), (u64::MAX, 0)] {
             occupancy(p, page, length);
         }
@@ -875,7 +892,7 @@ pub fn input() -> String {
     unsound_buckets(p);
     early(p);
     merges(p);
-    for (b, calls) in [(1, 60), (2, 60), (3, 80), (8, 50), (20, 40)] {
+    for (b, calls) in [(1, 40), (2, 30), (3, 40), (8, 30), (20, 20)] {
         for kind in KINDS {
             histories::play(p, kind, b, calls);
         }
@@ -883,6 +900,7 @@ pub fn input() -> String {
     rows(p);
     occupancy_pages(p);
     copies(p);
+    tails::tails(p);
     text
 }
 
@@ -949,25 +967,28 @@ mod tests {
             let line = Line::parse(line).expect("a stored line");
             let before = images.clone();
             let answer = images.perform(&Model, line);
-            met.extend(branches::of(&before, line, answer >> 56 == 0));
+            met.extend(branches::of(&before, line, answer >> 56));
             numbers.insert(answer >> 56);
             assert!(images
                 .image
                 .iter()
                 .all(|image| image.len() <= LONGEST_IMAGE));
             assert!(images.out.len() <= 8 * LONGEST_OUTPUT);
-            if let Line::Occupancy { length, .. } = line {
-                assert!(length <= LONGEST_OCCUPANCY);
+            match line {
+                Line::Occupancy { length, .. } => assert!(length <= LONGEST_OCCUPANCY),
+                Line::Tail { length, .. } => assert!(length <= LONGEST_TAIL),
+                _ => {}
             }
         }
         let rows = branches::ROWS.iter();
         let rows = rows.filter(|name| !branches::BEYOND_THREE.contains(name));
-        let all = branches::ALL.iter().chain(rows).chain(branches::OCCUPANCY);
+        let all = branches::ALL.iter().chain(branches::TAILS);
+        let all = all.chain(rows).chain(branches::OCCUPANCY);
         let all: BTreeSet<String> = all.map(|name| name.to_string()).collect();
         let missing: Vec<&String> = all.difference(&met).collect();
         let unknown: Vec<&String> = met.difference(&all).collect();
         assert!(missing.is_empty(), "missing: {missing:#?}");
         assert!(unknown.is_empty(), "not named: {unknown:#?}");
-        assert_eq!(numbers, (0..=8).chain([10]).collect());
+        assert_eq!(numbers, (0..=8).chain(10..=13).collect());
     }
 }

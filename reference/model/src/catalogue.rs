@@ -38,6 +38,12 @@ pub trait Catalogue {
     fn occupancy(&self, image: &[u8], page: u64, out: &mut [u8]) -> Option<u64>;
     /// Value 0.
     fn merge(&self, first: &[u8], second: &[u8], target: &mut [u8]) -> u64;
+    /// Value 0. The output gets the total, then the change count.
+    fn tail(&self, image: &[u8], out: &mut [u64]) -> u64;
+    /// The move to the new form. Value 0.
+    fn attach(&self, old: &[u8], target: &mut [u8]) -> u64;
+    /// The move to the old form. Value 0.
+    fn detach(&self, image: &[u8], target: &mut [u8]) -> u64;
 }
 
 /// The plain machine.
@@ -117,5 +123,17 @@ impl Catalogue for Model {
 
     fn merge(&self, first: &[u8], second: &[u8], target: &mut [u8]) -> u64 {
         pack(calls::merge(first, second, target), |()| 0)
+    }
+
+    fn tail(&self, image: &[u8], out: &mut [u64]) -> u64 {
+        pack(calls::tail(image, out), |()| 0)
+    }
+
+    fn attach(&self, old: &[u8], target: &mut [u8]) -> u64 {
+        pack(calls::attach(old, target), |()| 0)
+    }
+
+    fn detach(&self, image: &[u8], target: &mut [u8]) -> u64 {
+        pack(calls::detach(image, target), |()| 0)
     }
 }

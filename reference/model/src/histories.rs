@@ -1,8 +1,10 @@
-//! Random histories: calls on images that are whole, damaged, or sound but never checked.
+//! Random histories: calls on images that are whole, damaged, or sound but never checked, with good
+//! tails and bad ones, and moves between the forms.
 
 use crate::bucket::Member;
+use crate::calls::members;
 use crate::fingerprint::Fingerprint;
-use crate::prepare::Player;
+use crate::prepare::{members_in, Player};
 use crate::random::Random;
 use crate::shape::{Shape, BUCKET};
 use crate::stored::Line;
@@ -21,15 +23,21 @@ pub enum Kind {
     Early,
     /// Wrong lengths.
     Lengths,
+    /// Bad tails, wrong totals, and change counts near the top.
+    Tails,
+    /// Moves between the forms: of whole, damaged and unchecked images, into right and wrong lengths.
+    Moves,
 }
 
-pub const KINDS: [Kind; 6] = [
+pub const KINDS: [Kind; 8] = [
     Kind::Plain,
     Kind::Merging,
     Kind::Damaged,
     Kind::Unchecked,
     Kind::Early,
     Kind::Lengths,
+    Kind::Tails,
+    Kind::Moves,
 ];
 
 /// The few front buckets and (mini-bucket, tag) pairs that a history keeps to, so that copies,
@@ -233,6 +241,185 @@ fn any_front(player: &mut Player, pool: &Pool) -> Vec<Member> {
     (0..how_many).map(member).collect()
 }
 
+/// One change of a tail: a bad one, another total or another change count.
+fn spoil(player: &mut Player, x: usize) {
+    let shape = player.shape(x);
+    let slots = shape.slots();
+    let members = members_in(&player.images.image[x], shape).unwrap_or(slots / 2);
+    let random = &mut player.random;
+    let (any, near) = (random.bits(), random.below(3));
+    match random.below(12) {
+        0 => {
+            let layout = *random.pick(&[0, 2, 3, 255]);
+            player.put_tail_byte(x, 16, layout);
+        }
+        1 => {
+            let within = 17 + random.below(47) as usize;
+            let at = *random.pick(&[17, 24, 63, within]);
+            player.put_tail_byte(x, at, 1 << near);
+        }
+        2 => {
+            let total = *random.pick(&[slots + 1, slots + 2, 1 << 32, 1 << 63, u64::MAX, any]);
+            player.put_total(x, total);
+        }
+        3..=5 => {
+            let total = *random.pick(&[0, 0, 1, slots - 1, slots, slots]);
+            player.put_total(x, total);
+        }
+        6 => player.put_total(x, (members + near).saturating_sub(1)),
+        7..=9 => player.put_changes(x, u64::MAX - near),
+        _ => player.put_changes(x, any),
+    }
+}
+
+/// Sound buckets of any content for one front bucket of the pool, in front or behind.
+fn scramble(player: &mut Player, x: usize, pool: &Pool) {
+    let f = *player.random.pick(&pool.fronts);
+    if player.random.one_in(2) {
+        let members = any_front(player, pool);
+        player.put_front(x, f, members);
+    } else {
+        let home = pool.shape.second_home(f);
+        let members = any_backyard(player, pool, home.bucket);
+        player.put_backyard(x, home.bucket, members);
+    }
+}
+
+/// A damaged or a scrambled bucket.
+fn harm(player: &mut Player, x: usize, pool: &Pool) {
+    if player.random.one_in(2) {
+        let table = pool.table(&mut player.random);
+        damage(player, x, table);
+    } else {
+        scramble(player, x, pool);
+    }
+}
+
+/// Inserts into one front bucket, mostly more than it holds in front.
+fn fill(player: &mut Player, x: usize, pool: &Pool) {
+    let front = *player.random.pick(&pool.fronts);
+    for _ in 0..player.random.below(80) {
+        let (mini, tag) = *player.random.pick(&pool.values);
+        player.insert(x, Fingerprint { front, mini, tag });
+    }
+}
+
+/// A delete of a member of some front bucket, where it has one.
+fn delete_a_member(player: &mut Player, x: usize, pool: &Pool) {
+    let f = *player.random.pick(&pool.fronts);
+    let there = members(&player.images.image[x], pool.shape, f).unwrap_or_default();
+    let g = match there[..] {
+        [] => pool.fingerprint(&mut player.random),
+        _ => *player.random.pick(&there),
+    };
+    player.delete(x, g);
+}
+
+/// The tail's numbers into an output of any length.
+fn tail(player: &mut Player, x: usize) {
+    let length = player.random.below(5) as usize;
+    player.tail(x, length);
+}
+
+/// Calls and merges on image 0 with a spoiled tail, some with harmed buckets, beside image 1, of
+/// which only the tail is spoiled.
+fn tails(player: &mut Player, pool: &Pool, how_many: usize) {
+    player.new_image(2, pool.shape.length());
+    calls(player, 0, pool, how_many / 3);
+    fill(player, 0, pool);
+    player.copy(0, 1);
+    for _ in 0..how_many / 10 {
+        for _ in 0..1 + player.random.below(2) {
+            spoil(player, 0);
+        }
+        if player.random.one_in(2) {
+            harm(player, 0, pool);
+        }
+        delete_a_member(player, 0, pool);
+        calls(player, 0, pool, 5);
+        delete_a_member(player, 0, pool);
+        player.check(0);
+        tail(player, 0);
+        if player.random.one_in(2) {
+            let good = player.tail_bytes(1);
+            spoil(player, 1);
+            for (x, y) in [(0, 1), (1, 0), (1, 1)] {
+                player.merge(x, y, 2);
+            }
+            player.put_tail(1, good);
+        }
+        if player.random.one_in(2) {
+            player.copy(1, 0);
+        }
+    }
+}
+
+/// Moves from image 0 and from old image 1, which starts as its copy, into image 2 of right and
+/// wrong lengths.
+fn moves(player: &mut Player, pool: &Pool, how_many: usize) {
+    let shape = pool.shape;
+    for _ in 0..how_many / 20 {
+        player.fresh(0, shape.b);
+        match player.random.below(8) {
+            0 => {}
+            1 => calls(player, 0, pool, 10),
+            _ => fill(player, 0, pool),
+        }
+        player.new_image(1, shape.old_length());
+        player.detach(0, 1);
+        for _ in 0..3 {
+            match player.random.below(8) {
+                0 | 1 => harm(player, 0, pool),
+                2 | 3 => harm(player, 1, pool),
+                4 | 5 => spoil(player, 0),
+                _ => {}
+            }
+            move_both(player, pool);
+        }
+    }
+}
+
+/// Both moves into image 2. Where one makes an image of the new form, the calls go on with it, and
+/// it moves back.
+fn move_both(player: &mut Player, pool: &Pool) {
+    target(player, pool.shape, Shape::old_length);
+    player.detach(0, 2);
+    target(player, pool.shape, Shape::length);
+    if player.attach(1, 2) == 0 {
+        calls(player, 2, pool, 3);
+        player.check(2);
+        tail(player, 2);
+        player.detach(2, 1);
+    }
+    if player.random.one_in(8) {
+        player.attach(0, 2);
+        player.detach(1, 2);
+    }
+}
+
+/// Image 2 as the target of a move: mostly of the length for this shape in the right form, or for
+/// another shape. It may hold anything.
+fn target(player: &mut Player, shape: Shape, length: fn(Shape) -> usize) {
+    let (more, less) = (shape.b + 1, shape.b.max(2) - 1);
+    let random = &mut player.random;
+    let b = *random.pick(&[more, less]);
+    let right = length(shape);
+    let wrong = [0, 64, right - 1, right + 1, right - 64, right + 64];
+    let length = match random.below(8) {
+        0 => *random.pick(&wrong),
+        1 | 2 => length(Shape { b }),
+        _ => right,
+    };
+    let word = random.bits();
+    let holds_something = random.one_in(3);
+    player.new_image(2, length);
+    if holds_something && length >= 1024 {
+        for at in [0, 512, length - 8] {
+            player.play(Line::Poke { x: 2, at, word });
+        }
+    }
+}
+
 fn merges(player: &mut Player, pool: &Pool) {
     for (x, y, z) in [(0, 1, 2), (0, 0, 2), (1, 0, 2)] {
         player.merge(x, y, z);
@@ -241,20 +428,49 @@ fn merges(player: &mut Player, pool: &Pool) {
     player.check(2);
 }
 
+/// Every call on an image of a wrong length, an old image among these, then merges with one of
+/// another shape.
+fn lengths(player: &mut Player, pool: &Pool, how_many: usize) {
+    let b = pool.shape.b;
+    let (old, good) = (pool.shape.old_length(), pool.shape.length());
+    let near = good + player.random.below(1200) as usize - 600;
+    let near = near.min(Shape { b: 112 }.length());
+    for wrong in [0, 1, 63, 64, 511, 512, 576, old, good - 1, good + 1, near] {
+        player.new_image(1, wrong);
+        player.play(Line::Fresh { x: 1 });
+        calls(player, 1, pool, 3);
+        player.check(1);
+        player.page(1, pool.shape.fronts() + 1, 4);
+        tail(player, 1);
+        player.fresh(2, b);
+        for (x, y, z) in [(0, 0, 1), (0, 1, 2), (1, 0, 2), (1, 1, 2)] {
+            player.merge(x, y, z);
+        }
+    }
+    calls(player, 0, pool, how_many / 4);
+    let other = Shape { b: b % 112 + 1 };
+    player.fresh(1, other.b);
+    player.put_byte(1, 0, 0, 0);
+    spoil(player, 1);
+    for (x, y, z) in [(0, 0, 1), (0, 1, 2), (1, 0, 2), (1, 1, 2)] {
+        player.merge(x, y, z);
+    }
+}
+
 /// Plays a history of about so many calls on images of one shape.
 pub fn play(player: &mut Player, kind: Kind, b: u64, how_many: usize) {
     let shape = Shape { b };
     let pool = Pool::new(shape, &mut player.random);
     player.fresh(0, b);
     match kind {
-        Kind::Plain => calls(player, 0, &pool, how_many),
+        Kind::Plain => {
+            calls(player, 0, &pool, how_many);
+            player.tail(0, 2);
+        }
         Kind::Merging => {
             let other = Pool::new(shape, &mut player.random);
             player.fresh(1, b);
-            player.play(Line::New {
-                x: 2,
-                length: shape.length(),
-            });
+            player.new_image(2, shape.length());
             merges(player, &pool);
             calls(player, 0, &pool, how_many / 3);
             player.merge(0, 1, 2);
@@ -264,12 +480,9 @@ pub fn play(player: &mut Player, kind: Kind, b: u64, how_many: usize) {
             calls(player, 2, &pool, how_many / 4);
         }
         Kind::Damaged => {
-            player.play(Line::New {
-                x: 2,
-                length: shape.length(),
-            });
+            player.new_image(2, shape.length());
             calls(player, 0, &pool, how_many / 2);
-            player.play(Line::Copy { x: 0, y: 1 });
+            player.copy(0, 1);
             for _ in 0..how_many / 12 {
                 for _ in 0..1 + player.random.below(2) {
                     let table = pool.table(&mut player.random);
@@ -282,7 +495,7 @@ pub fn play(player: &mut Player, kind: Kind, b: u64, how_many: usize) {
                     _ => 0,
                 };
                 if player.random.one_in(2) {
-                    player.play(Line::Copy { x: 1, y: 0 });
+                    player.copy(1, 0);
                 }
             }
         }
@@ -305,47 +518,92 @@ pub fn play(player: &mut Player, kind: Kind, b: u64, how_many: usize) {
         }
         Kind::Early => {
             calls(player, 0, &pool, how_many * 2 / 3);
-            player.play(Line::Copy { x: 0, y: 1 });
+            player.copy(0, 1);
             for _ in 0..how_many / 20 {
-                let f = *player.random.pick(&pool.fronts);
-                if player.random.one_in(2) {
-                    let members = any_front(player, &pool);
-                    player.put_front(0, f, members);
-                } else {
-                    let home = shape.second_home(f);
-                    let members = any_backyard(player, &pool, home.bucket);
-                    player.put_backyard(0, home.bucket, members);
-                }
+                scramble(player, 0, &pool);
                 player.check(0);
                 calls(player, 0, &pool, 4);
             }
             player.fresh(2, b);
             merges(player, &pool);
         }
-        Kind::Lengths => {
-            let good = shape.length();
-            let near = good + player.random.below(1200) as usize - 600;
-            let near = near.min(113 * 576 + 448);
-            for wrong in [0, 1, 63, 64, 447, 448, 512, good - 1, good + 1, near] {
-                player.play(Line::New {
-                    x: 1,
-                    length: wrong,
-                });
-                player.play(Line::Fresh { x: 1 });
-                calls(player, 1, &pool, 3);
-                player.check(1);
-                player.page(1, shape.fronts() + 1, 4);
-                player.fresh(2, b);
-                for (x, y, z) in [(0, 0, 1), (0, 1, 2), (1, 0, 2), (1, 1, 2)] {
-                    player.merge(x, y, z);
-                }
+        Kind::Lengths => lengths(player, &pool, how_many),
+        Kind::Tails => tails(player, &pool, how_many),
+        Kind::Moves => moves(player, &pool, how_many),
+    }
+}
+
+#[cfg(test)]
+mod tests {
+    use super::*;
+    use crate::branches;
+    use crate::stored::Images;
+    use std::collections::BTreeSet;
+
+    #[test]
+    fn every_branch_of_tails() {
+        let mut met = BTreeSet::new();
+        let mut numbers = BTreeSet::new();
+        let mut before = Images::default();
+        let mut observer = |line: Line, answer: u64, images: &Images| {
+            if line.is_call() {
+                met.extend(branches::of(&before, line, answer >> 56));
+                numbers.insert(answer >> 56);
             }
-            calls(player, 0, &pool, how_many / 4);
-            let other = Shape { b: b % 113 + 1 };
-            player.fresh(1, other.b);
-            player.put_byte(1, 0, 0, 0);
-            for (x, y, z) in [(0, 0, 1), (0, 1, 2), (1, 0, 2), (1, 1, 2)] {
-                player.merge(x, y, z);
+            before = images.clone();
+        };
+        let mut player = Player::new(1, &mut observer);
+        for round in 0..40 {
+            for kind in KINDS {
+                play(&mut player, kind, 1 + round % 8, 200);
+            }
+        }
+        let all = branches::TAILS.iter().map(|name| name.to_string());
+        let missing: Vec<String> = all.filter(|name| !met.contains(name)).collect();
+        assert!(missing.is_empty(), "missing: {missing:#?}");
+        assert_eq!(numbers, (0..=8).chain(11..=13).collect());
+    }
+
+    /// What the tail of each image must tell by the calls accepted on it: total and change count.
+    #[derive(Default)]
+    struct Filed([(u64, u64); 3]);
+
+    impl Filed {
+        fn tell(&mut self, line: Line) {
+            let filed = &mut self.0;
+            match line {
+                Line::Fresh { x } => filed[x] = (0, 0),
+                Line::Insert { x, .. } => filed[x] = (filed[x].0 + 1, filed[x].1 + 1),
+                Line::Delete { x, .. } => filed[x] = (filed[x].0 - 1, filed[x].1 + 1),
+                Line::Merge { x, y, z } => filed[z] = (filed[x].0 + filed[y].0, 0),
+                _ => {}
+            }
+        }
+    }
+
+    #[test]
+    fn totals_over_histories() {
+        let mut filed = Filed::default();
+        let mut observer = |line: Line, answer: u64, images: &Images| {
+            if answer >> 56 == 0 {
+                filed.tell(line);
+            }
+            if let (Line::Merge { z, .. }, 4) = (line, answer >> 56) {
+                filed.tell(Line::Fresh { x: z });
+            }
+            let Some(&x) = line.images().last().filter(|_| line.is_call()) else {
+                return;
+            };
+            let shape = Shape::of_length(images.image[x].len()).expect("a good length");
+            let tail = crate::tail::Tail::of_image(&images.image[x], shape);
+            let tail = tail.map(|tail| (tail.total, tail.changes));
+            assert_eq!(tail, Some(filed.0[x]));
+            assert_eq!(members_in(&images.image[x], shape), Some(filed.0[x].0));
+        };
+        let mut player = Player::new(2, &mut observer);
+        for b in [1, 2, 3, 8, 20] {
+            for kind in [Kind::Plain, Kind::Merging] {
+                play(&mut player, kind, b, 400);
             }
         }
     }

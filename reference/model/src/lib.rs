@@ -9,7 +9,8 @@
 //! - `fingerprint`: front bucket, mini-bucket and tag of a hash
 //! - `map`: from a front bucket to its two backyard buckets and back
 //! - `bucket`: the members of a bucket from its 64 bytes and back
-//! - `calls`: the eight calls, the row of asks and the occupancy page
+//! - `tail`: the total and the change count behind the buckets
+//! - `calls`: the eight calls, the row of asks, the occupancy page, the tail and the moves
 //! - `catalogue`: the calls with the packed answers of the C boundary
 //! - `program`: the small program, lines to answers
 //! - `occupancy`: the program that prints every occupancy page, and images stored for it
@@ -40,4 +41,5 @@ pub mod random;
 pub mod sha256;
 pub mod shape;
 pub mod stored;
+pub mod tail;
 pub mod vectors;

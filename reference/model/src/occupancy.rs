@@ -4,10 +4,10 @@ use crate::calls::{self, Refusal, OCCUPANCY_BYTES};
 use crate::fingerprint::Fingerprint;
 use crate::prepare::{fresh_image, hash_of};
 use crate::random::Random;
-use crate::shape::{Shape, BACKYARD_SLOTS, BUCKET, FRONT_SLOTS};
+use crate::shape::{Shape, BUCKET};
 
-/// The longest image that the program takes: B = 113.
-const LONGEST: usize = 65536;
+/// The longest image that the program takes: B = 112.
+const LONGEST: usize = 65024;
 
 /// What is printed for an input: page after page, and where one is refused a last line that tells
 /// why.
@@ -38,7 +38,7 @@ fn refused(refusal: Refusal) -> String {
 }
 
 /// The names of the stored images.
-pub const NAMES: [&str; 4] = ["full", "day", "unsound", "short"];
+pub const NAMES: [&str; 5] = ["full", "day", "unsound", "short", "tail"];
 
 /// The image of this name: a stored one, or `largest`, which is written anew where it is tried.
 pub fn image(name: &str) -> Option<Vec<u8>> {
@@ -47,6 +47,7 @@ pub fn image(name: &str) -> Option<Vec<u8>> {
         "day" => day(),
         "unsound" => unsound(),
         "short" => day()[1..].to_vec(),
+        "tail" => bad_tail(),
         "largest" => largest(),
         _ => return None,
     })
@@ -96,16 +97,22 @@ fn unsound() -> Vec<u8> {
     image
 }
 
+/// The same with a bad tail: its last byte is not 0.
+fn bad_tail() -> Vec<u8> {
+    let mut image = day();
+    *image.last_mut().expect("a tail") = 1;
+    image
+}
+
 /// 90 % of all slots, at random.
 fn largest() -> Vec<u8> {
-    let shape = Shape { b: 113 };
+    let shape = Shape { b: 112 };
     let mut image = fresh_image(shape.b);
     let mut random = Random::new(3);
-    let slots = shape.fronts() as usize * FRONT_SLOTS + shape.backyards() as usize * BACKYARD_SLOTS;
-    let mut left = slots * 9 / 10;
+    let mut left = shape.slots() * 9 / 10;
     while left > 0 {
         // A hash that is refused as full is let go.
-        left -= calls::insert(&mut image, random.bits()).is_ok() as usize;
+        left -= calls::insert(&mut image, random.bits()).is_ok() as u64;
     }
     image
 }
@@ -114,6 +121,9 @@ fn largest() -> Vec<u8> {
 mod tests {
     use super::*;
     use crate::bucket::{encode_front, Member};
+    use crate::prepare::members_in;
+    use crate::shape::{BACKYARD_SLOTS, FRONT_SLOTS};
+    use crate::tail::Tail;
 
     #[test]
     fn pages_and_refusals() {
@@ -129,7 +139,26 @@ mod tests {
         assert_eq!(day[31][..13], *"    31 21  0 ");
         assert_eq!(day[32], " ".repeat(41));
         assert_eq!(lines("short"), ["1"]);
+        assert_eq!(lines("tail"), ["11"]);
         assert_eq!(lines("largest").len(), 38 * 24);
+    }
+
+    #[test]
+    fn tails() {
+        for name in ["full", "day", "largest"] {
+            let image = image(name).unwrap();
+            let shape = Shape::of_length(image.len()).unwrap();
+            let total = members_in(&image, shape).unwrap();
+            let changes = total;
+            assert_eq!(Tail::of_image(&image, shape), Some(Tail { total, changes }));
+            assert_eq!(calls::check(&image), Ok(()));
+        }
+        let day = image("day").unwrap();
+        for name in ["unsound", "tail"] {
+            let image = image(name).unwrap();
+            let differ = day.iter().zip(&image).filter(|(a, b)| a != b);
+            assert_eq!((image.len(), differ.count()), (day.len(), 1));
+        }
     }
 
     #[test]
@@ -144,19 +173,20 @@ mod tests {
             let members = calls::read_backyard(&image, shape, j).unwrap();
             assert_eq!(members.len(), BACKYARD_SLOTS);
         }
-        assert_eq!(calls::check(&image), Ok(()));
     }
 
     #[test]
     fn lengths() {
-        let longest = fresh_image(113);
+        let longest = fresh_image(112);
         assert_eq!(longest.len(), LONGEST);
         assert_eq!(run(&longest).len(), 38 * OCCUPANCY_BYTES);
         assert_eq!(run(&[&longest[..], &[0]].concat()), "1\n");
-        // An image with B = 114 is cut short.
-        assert_eq!(run(&fresh_image(114)), "1\n");
+        // An image with B = 113 is cut short.
+        assert_eq!(run(&fresh_image(113)), "1\n");
         assert_eq!(run(b""), "1\n");
-        assert_eq!(run(&[0; 1024]), "3 0\n");
+        // An old image, and no tail at all.
+        assert_eq!(run(&fresh_image(1)[..1024]), "1\n");
+        assert_eq!(run(&[0; 1088]), "11\n");
     }
 
     #[test]

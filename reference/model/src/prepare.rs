@@ -7,6 +7,7 @@ use crate::fingerprint::Fingerprint;
 use crate::random::Random;
 use crate::shape::{Shape, BUCKET, MINIS};
 use crate::stored::{Images, Line};
+use crate::tail::Tail;
 
 /// The smallest number whose product with `factor`, divided by `whole`, rounds down to `n`.
 fn lowest(n: u64, factor: u64, whole: u64) -> u64 {
@@ -36,6 +37,14 @@ pub fn fresh_image(b: u64) -> Vec<u8> {
     image
 }
 
+/// The members in all buckets of an image of either form, or nothing where one is unsound.
+pub fn members_in(image: &[u8], shape: Shape) -> Option<u64> {
+    let mut tables = 0..shape.buckets();
+    tables.try_fold(0, |sum, table| {
+        Some(sum + calls::members_at(image, shape, table)?)
+    })
+}
+
 /// Plays lines on the model and shows each, performed, to an observer.
 pub struct Player<'a> {
     pub images: Images,
@@ -59,15 +68,24 @@ impl<'a> Player<'a> {
         answer
     }
 
-    /// The shape of image x, whose length is good.
+    /// The shape of image x, whose length is good, of either form.
     pub fn shape(&self, x: usize) -> Shape {
-        Shape::of_length(self.images.image[x].len()).expect("a good length")
+        let length = self.images.image[x].len();
+        let shape = Shape::of_length(length).or(Shape::of_old_length(length));
+        shape.expect("a good length")
+    }
+
+    pub fn new_image(&mut self, x: usize, length: usize) {
+        self.play(Line::New { x, length });
+    }
+
+    pub fn copy(&mut self, x: usize, y: usize) {
+        self.play(Line::Copy { x, y });
     }
 
     /// A fresh image.
     pub fn fresh(&mut self, x: usize, b: u64) {
-        let length = Shape { b }.length();
-        self.play(Line::New { x, length });
+        self.new_image(x, Shape { b }.length());
         self.play(Line::Fresh { x });
     }
 
@@ -108,20 +126,90 @@ impl<'a> Player<'a> {
         self.play(Line::Merge { x, y, z })
     }
 
-    /// The bytes of a bucket by its table number.
-    pub fn bucket(&self, x: usize, table: u64) -> Bytes {
-        let at = table as usize * BUCKET;
-        self.images.image[x][at..at + BUCKET].try_into().unwrap()
+    pub fn tail(&mut self, x: usize, length: usize) -> u64 {
+        self.play(Line::Tail { x, length })
     }
 
-    /// Overwrites a bucket, eight bytes at a time where they differ.
+    pub fn attach(&mut self, x: usize, y: usize) -> u64 {
+        self.play(Line::Attach { x, y })
+    }
+
+    pub fn detach(&mut self, x: usize, y: usize) -> u64 {
+        self.play(Line::Detach { x, y })
+    }
+
+    /// The bytes of a bucket by its table number.
+    pub fn bucket(&self, x: usize, table: u64) -> Bytes {
+        self.bytes_at(x, table as usize * BUCKET)
+    }
+
+    /// The bytes of the tail.
+    pub fn tail_bytes(&self, x: usize) -> Bytes {
+        self.bytes_at(x, self.shape(x).old_length())
+    }
+
+    fn bytes_at(&self, x: usize, at: usize) -> Bytes {
+        self.images.image[x][at..at + 64].try_into().unwrap()
+    }
+
+    /// Overwrites a bucket. A good total follows where the members before and after are known.
     pub fn put(&mut self, x: usize, table: u64, bytes: Bytes) {
-        let old = self.bucket(x, table);
-        for from in (0..BUCKET).step_by(8) {
+        let before = self.members_at(x, table);
+        self.overwrite(x, table as usize * BUCKET, bytes);
+        let after = self.members_at(x, table);
+        let (Some(before), Some(after), Some(tail)) = (before, after, self.good_tail(x)) else {
+            return;
+        };
+        let total = (tail.total + after).checked_sub(before);
+        if let Some(total) = total.filter(|&total| total <= self.shape(x).slots()) {
+            self.put_total(x, total);
+        }
+    }
+
+    fn members_at(&self, x: usize, table: u64) -> Option<u64> {
+        calls::members_at(&self.images.image[x], self.shape(x), table)
+    }
+
+    /// The tail of image x, nothing where it is bad or the image has none.
+    fn good_tail(&self, x: usize) -> Option<Tail> {
+        let image = &self.images.image[x];
+        Tail::of_image(image, Shape::of_length(image.len())?)
+    }
+
+    /// Overwrites the tail.
+    pub fn put_tail(&mut self, x: usize, bytes: Bytes) {
+        self.overwrite(x, self.shape(x).old_length(), bytes);
+    }
+
+    /// Overwrites the total alone.
+    pub fn put_total(&mut self, x: usize, total: u64) {
+        let mut bytes = self.tail_bytes(x);
+        bytes[..8].copy_from_slice(&total.to_le_bytes());
+        self.put_tail(x, bytes);
+    }
+
+    /// Overwrites the change count alone.
+    pub fn put_changes(&mut self, x: usize, changes: u64) {
+        let mut bytes = self.tail_bytes(x);
+        bytes[8..16].copy_from_slice(&changes.to_le_bytes());
+        self.put_tail(x, bytes);
+    }
+
+    /// Overwrites one byte of the tail.
+    pub fn put_tail_byte(&mut self, x: usize, at: usize, value: u8) {
+        let mut bytes = self.tail_bytes(x);
+        bytes[at] = value;
+        self.put_tail(x, bytes);
+    }
+
+    /// Overwrites the bytes of a bucket or of the tail, eight at a time where they differ.
+    fn overwrite(&mut self, x: usize, at: usize, bytes: Bytes) {
+        let old = self.bytes_at(x, at);
+        for from in (0..bytes.len()).step_by(8) {
             if old[from..from + 8] != bytes[from..from + 8] {
                 self.play(Line::Poke {
                     x,
-                    at: table as usize * BUCKET + from,
+                    at: at + from,
                     word: u64::from_le_bytes(bytes[from..from + 8].try_into().unwrap()),
                 });
             }

@@ -73,6 +73,21 @@ pub enum Line {
         page: u64,
         length: usize,
     },
+    /// Old image x into y, which is another.
+    Attach {
+        x: usize,
+        y: usize,
+    },
+    /// Image x into the old image y, which is another.
+    Detach {
+        x: usize,
+        y: usize,
+    },
+    /// The output has `length` entries, which hold before the call what those of a page do.
+    Tail {
+        x: usize,
+        length: usize,
+    },
 }
 
 /// How far the hashes of a row lie apart: what is added to their two digits of 16 bits that tell
@@ -109,6 +124,9 @@ impl Line {
                 (0x0B, x, 0, 0, hash, q)
             }
             Line::Occupancy { x, page, length } => (0x0C, x, 0, 0, page, length),
+            Line::Attach { x, y } => (0x0D, x, y, 0, 0, 0),
+            Line::Detach { x, y } => (0x0E, x, y, 0, 0, 0),
+            Line::Tail { x, length } => (0x0F, x, 0, 0, 0, length),
         }
     }
 
@@ -152,6 +170,9 @@ impl Line {
                 page: p,
                 length: q,
             },
+            0x0D => Line::Attach { x, y },
+            0x0E => Line::Detach { x, y },
+            0x0F => Line::Tail { x, length: q },
             _ => return None,
         };
         (line.text().trim_end() == text).then_some(line)
@@ -161,12 +182,12 @@ impl Line {
     pub fn images(self) -> Vec<usize> {
         match self {
             Line::Merge { x, y, z } => vec![x, y, z],
-            Line::Copy { x, y } => vec![x, y],
+            Line::Copy { x, y } | Line::Attach { x, y } | Line::Detach { x, y } => vec![x, y],
             _ => vec![self.fields().1],
         }
     }
 
-    /// Whether the line is one of the eight calls, a row or an occupancy page.
+    /// Whether the line is a call.
     pub fn is_call(self) -> bool {
         !matches!(
             self,
@@ -175,8 +196,8 @@ impl Line {
     }
 }
 
-/// Three images, and what the last call was lent besides, as bytes: the output of a page or of an
-/// occupancy page, or the fields of a row's entries.
+/// Three images, and what the last call was lent besides, as bytes: the output of a page, of an
+/// occupancy page or of a tail, or the fields of a row's entries.
 #[derive(Clone, Default, PartialEq, Eq)]
 pub struct Images {
     pub image: [Vec<u8>; 3],
@@ -205,7 +226,17 @@ impl Images {
                 image[z] = target;
                 return answer;
             }
-            Line::Page { .. } | Line::Row { .. } | Line::Occupancy { .. } => {
+            Line::Attach { x, y } | Line::Detach { x, y } => {
+                assert!(x != y, "the target is not the source");
+                let mut target = std::mem::take(&mut image[y]);
+                let answer = match line {
+                    Line::Attach { .. } => catalogue.attach(&image[x], &mut target),
+                    _ => catalogue.detach(&image[x], &mut target),
+                };
+                image[y] = target;
+                return answer;
+            }
+            Line::Page { .. } | Line::Row { .. } | Line::Occupancy { .. } | Line::Tail { .. } => {
                 return self.perform_with_output(catalogue, line);
             }
         }
@@ -215,9 +246,10 @@ impl Images {
     /// Performs a call that is lent more than an image.
     fn perform_with_output(&mut self, catalogue: &dyn Catalogue, line: Line) -> u64 {
         let bytes = |numbers: &[u64]| numbers.iter().flat_map(|n| n.to_le_bytes()).collect();
+        let before = |length| -> Vec<u64> { (0..length as u64).map(|i| u64::MAX - i).collect() };
         let answer = match line {
             Line::Page { x, start, length } => {
-                let mut out: Vec<u64> = (0..length as u64).map(|i| u64::MAX - i).collect();
+                let mut out = before(length);
                 let answer = catalogue.page(&self.image[x], start, &mut out);
                 self.out = bytes(&out);
                 Some(answer)
@@ -232,13 +264,19 @@ impl Images {
                 self.out = vec![7; length];
                 catalogue.occupancy(&self.image[x], page, &mut self.out)
             }
+            Line::Tail { x, length } => {
+                let mut out = before(length);
+                let answer = catalogue.tail(&self.image[x], &mut out);
+                self.out = bytes(&out);
+                Some(answer)
+            }
             _ => panic!("a call without output"),
         };
         answer.expect("an implementation that has this call")
     }
 
-    /// FNV-1a over the bytes that the call was lent: the image, for a merge the three in their
-    /// order, then the output.
+    /// FNV-1a over the bytes that the call was lent: the image, for a merge the three and for a
+    /// move the two in their order, then the output.
     fn checksum(&self, line: Line) -> u64 {
         let images = line.images().into_iter().map(|x| &self.image[x]);
         images
@@ -332,6 +370,9 @@ mod tests {
                 page: u64::MAX,
                 length: 1040,
             },
+            Line::Attach { x: 2, y: 1 },
+            Line::Detach { x: 0, y: 1 },
+            Line::Tail { x: 1, length: 4 },
         ] {
             let text = line.text();
             assert_eq!(text.len(), WIDTH + 1);
@@ -365,7 +406,7 @@ mod tests {
             hash: 5,
             step,
         };
-        row(Line::New { x: 0, length: 1024 });
+        row(Line::New { x: 0, length: 1088 });
         row(Line::Fresh { x: 0 });
         let hashes = row_hashes(5, step);
         let fields = |told: [u64; 4]| -> Vec<u8> {
@@ -378,13 +419,14 @@ mod tests {
             row(Line::Insert { x: 0, hash });
         }
         assert_eq!(row(ask), (1, fields([1, 1, 0, 3])));
-        row(Line::New { x: 0, length: 1025 });
+        row(Line::New { x: 0, length: 1089 });
         assert_eq!(row(ask), (1 << 56, fields([7, 7, 7, 7])));
     }
+
     #[test]
     fn an_occupancy_page_and_what_it_keeps() {
         let mut images = Images::default();
-        images.perform(&Model, Line::New { x: 0, length: 1024 });
+        images.perform(&Model, Line::New { x: 0, length: 1088 });
         images.perform(&Model, Line::Fresh { x: 0 });
         let mut page = |page, length| {
             let answer = images.perform(&Model, Line::Occupancy { x: 0, page, length });
@@ -395,5 +437,28 @@ mod tests {
         assert_eq!(out[..13], *b"     0  0  0 ");
         assert_eq!(out[1006..], [b' ', b'\n', 7, 7]);
         assert_eq!(page(1, 253), (6 << 56, vec![7; 253]));
+    }
+
+    #[test]
+    fn tails_and_what_they_keep() {
+        let mut images = Images::default();
+        let mut play = |line| (images.perform(&Model, line), images.out.clone());
+        let mut tail = |length| play(Line::Tail { x: 0, length });
+        let bytes =
+            |numbers: &[u64]| -> Vec<u8> { numbers.iter().flat_map(|n| n.to_le_bytes()).collect() };
+        let before = [u64::MAX, u64::MAX - 1, u64::MAX - 2];
+        assert_eq!(tail(2), (1 << 56, bytes(&before[..2])));
+        play(Line::New { x: 0, length: 1088 });
+        let mut tail = |length| play(Line::Tail { x: 0, length });
+        assert_eq!(tail(0), (11 << 56, vec![]));
+        play(Line::Fresh { x: 0 });
+        for hash in [0, 1] {
+            play(Line::Insert { x: 0, hash });
+        }
+        play(Line::Delete { x: 0, hash: 1 });
+        let mut tail = |length| play(Line::Tail { x: 0, length });
+        assert_eq!(tail(1), (7 << 56, bytes(&before[..1])));
+        assert_eq!(tail(2), (0, bytes(&[1, 3])));
+        assert_eq!(tail(3), (0, bytes(&[1, 3, before[2]])));
     }
 }

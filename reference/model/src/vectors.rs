@@ -15,20 +15,31 @@
 //! merge R R2 R3        R3 is the target                           = 0 SHA SHA2 SHA3
 //! row R HASHES         an ENTRY is READS/PLACE/SLOT[/COPIES]      = 0 TOTAL ENTRIES SHA
 //! occupancy R P LENGTH output byte i holds i mod 251 before       = 0 SHA SHA_OUTPUT
+//! to_new R R2          the move of R into R2; from stage 14 on    = 0 SHA SHA2
+//! to_old R R2          the move of R into R2; from stage 14 on    = 0 SHA SHA2
 //! ```
 //!
 //! A refusal has NUMBER, or NUMBER TABLE_NUMBER, in the place of 0 and the values. HASH and HEX
 //! are in hex, other numbers in base ten. HASHES and ENTRIES are joined by commas, `-` where there
 //! are none. SHA is the SHA-256 of the image after the call.
+//!
+//! The images of the stages before 14 are old ones. They are replayed as images with a tail: `new`
+//! makes 64 bytes more, every call finds a good tail behind each image that it is lent, and digests
+//! are those of the bytes before the tail.
 
 use crate::catalogue::{Catalogue, Entry};
+use crate::prepare::members_in;
 use crate::sha256::sha256;
+use crate::shape::{Shape, TAIL};
+use crate::tail::Tail;
 use std::collections::HashMap;
 
 type Images = HashMap<String, Vec<u8>>;
 
 /// From this stage on an ask tells copies.
 const WITH_COPIES: u64 = 13;
+/// From this stage on the images that are told have a tail.
+const WITH_TAILS: u64 = 14;
 
 /// What a replay found: the calls compared, and a text for each that differs.
 pub struct Replayed {
@@ -123,6 +134,30 @@ fn pair(value: u64) -> String {
     format!(" {} {}", value % (1 << 32), value >> 32)
 }
 
+/// Bytes that an image has here beyond those told at this stage.
+fn beyond(stage: u64) -> usize {
+    match stage < WITH_TAILS {
+        true => TAIL,
+        false => 0,
+    }
+}
+
+/// A good tail for an image: its members, or half the slots where a bucket is unsound.
+fn put_tail(image: &mut [u8]) {
+    if let Some(shape) = Shape::of_length(image.len()) {
+        let total = members_in(image, shape).unwrap_or(shape.slots() / 2);
+        Tail { total, changes: 0 }.write(image);
+    }
+}
+
+/// The images that a call is lent, by name.
+fn lent<'a>(words: &'a [&'a str]) -> &'a [&'a str] {
+    match words[0] {
+        "merge" | "to_new" | "to_old" => &words[1..],
+        _ => &words[1..2],
+    }
+}
+
 /// Performs one call: the text of its result at this stage. Nothing where the catalogue has no such
 /// call.
 fn perform(
@@ -132,26 +167,65 @@ fn perform(
     call: &str,
 ) -> Option<String> {
     let words: Vec<&str> = call.split(' ').collect();
-    if words[0] == "merge" {
-        let mut target = images.remove(words[3]).expect("an image");
-        let answer = catalogue.merge(&images[words[1]], &images[words[2]], &mut target);
-        images.insert(words[3].to_string(), target);
-        let digests: Vec<String> = words[1..].iter().map(|r| sha256(&images[*r])).collect();
-        return Some(format!("{} {}", text(answer, nothing), digests.join(" ")));
-    }
+    let beyond = beyond(stage);
     if words[0] == "new" {
-        images.insert(words[1].to_string(), vec![0; number(words[2]) as usize]);
+        let length = number(words[2]) as usize + beyond;
+        images.insert(words[1].to_string(), vec![0; length]);
+    }
+    let is_call = !["new", "poke"].contains(&words[0]);
+    if beyond > 0 && is_call {
+        for name in lent(&words) {
+            put_tail(images.get_mut(*name).expect("an image"));
+        }
+    }
+    let (result, output) = perform_lent(catalogue, images, stage, &words)?;
+    let digest = |name: &&str| {
+        let image = &images[*name];
+        sha256(&image[..image.len() - beyond])
+    };
+    let mut told = vec![result];
+    told.extend(lent(&words).iter().map(digest));
+    told.extend(output.map(|output| sha256(&output)));
+    Some(told.join(" "))
+}
+
+/// Performs a call: the text of its answer, and the output if it has one.
+fn perform_lent(
+    catalogue: &dyn Catalogue,
+    images: &mut Images,
+    stage: u64,
+    words: &[&str],
+) -> Option<(String, Option<Vec<u8>>)> {
+    if let [_, .., target] = lent(words) {
+        return Some((into_target(catalogue, images, words, target), None));
     }
     let image = images.get_mut(words[1]).expect("an image");
-    let (result, output) = match words[0] {
+    Some(match words[0] {
         "page" | "occupancy" => {
-            let (result, output) = with_output(catalogue, image, &words)?;
-            (result, format!(" {}", sha256(&output)))
+            let (result, output) = with_output(catalogue, image, words)?;
+            (result, Some(output))
         }
-        "row" => (row(catalogue, image, stage, words[2])?, String::new()),
-        _ => (on_image(catalogue, image, stage, &words), String::new()),
+        "row" => (row(catalogue, image, stage, words[2])?, None),
+        _ => (on_image(catalogue, image, stage, words), None),
+    })
+}
+
+/// A call that writes a target, the last image it is lent.
+fn into_target(
+    catalogue: &dyn Catalogue,
+    images: &mut Images,
+    words: &[&str],
+    target: &str,
+) -> String {
+    let mut written = images.remove(target).expect("an image");
+    let source = |at: usize| &images[words[at]];
+    let answer = match words[0] {
+        "merge" => catalogue.merge(source(1), source(2), &mut written),
+        "to_new" => catalogue.attach(source(1), &mut written),
+        _ => catalogue.detach(source(1), &mut written),
     };
-    Some(format!("{result} {}{output}", sha256(image)))
+    images.insert(target.to_string(), written);
+    text(answer, nothing)
 }
 
 /// What follows the 0 of a call that gives no value.
@@ -248,19 +322,23 @@ mod tests {
     use crate::catalogue::Model;
     use crate::prepare::fresh_image;
 
+    /// The digests of 1,024 zero bytes and of a fresh image of stages before 14, B = 1.
+    fn old_digests() -> (String, String) {
+        (sha256(&[0; 1024]), sha256(&fresh_image(1)[..1024]))
+    }
+
     #[test]
     fn a_difference_is_seen() {
-        let fresh = sha256(&fresh_image(1));
+        let (zeros, fresh) = old_digests();
         let good = format!(
             "# a\n\
-             new a 1024 = - {}\n\
+             new a 1024 = - {zeros}\n\
              fresh a = 0 {fresh}\n\
              delete a 1F = 5 {fresh}\n\
              ask a 1F = 0 1 0 - {fresh}\n\
              row a 1F,2F = 0 1 1/0/-,1/0/- {fresh}\n\
              row a - = 0 0 - {fresh}\n\
              occupancy a 1 9 = 6 {fresh} {}\n",
-            sha256(&[0; 1024]),
             sha256(&[0, 1, 2, 3, 4, 5, 6, 7, 8]),
         );
         let replayed = replay(&Model, &good);
@@ -273,10 +351,10 @@ mod tests {
 
     #[test]
     fn copies_from_stage_13_on() {
-        let (zeros, mut image) = (vec![0; 1024], fresh_image(1));
-        let fresh = sha256(&image);
+        let (zeros, fresh) = old_digests();
+        let mut image = fresh_image(1);
         Model.insert(&mut image, 0x1F);
-        let (zeros, filed) = (sha256(&zeros), sha256(&image));
+        let filed = sha256(&image[..1024]);
         let calls = |with: &str, without: &str| {
             format!(
                 "new a 1024 = - {zeros}\n\
@@ -299,5 +377,36 @@ mod tests {
             };
             assert_eq!((differ(right), differ(wrong)), (0, 3));
         }
+    }
+
+    #[test]
+    fn tails_from_stage_14_on() {
+        let (zeros, fresh) = old_digests();
+        let unchecked = format!("check a = 3 0 {zeros}\nask a 1F = 3 0 {zeros}\n");
+        let before = format!(
+            "# a at level 13: plain\n\
+             new a 1024 = - {zeros}\n{unchecked}\
+             fresh a = 0 {fresh}\n\
+             check a = 0 {fresh}\n\
+             new b 1088 = - {}\n\
+             merge a a b = 1 {fresh} {fresh} {0}\n",
+            sha256(&[0; 1088]),
+        );
+        let replayed = replay(&Model, &before);
+        assert_eq!((replayed.compared, replayed.differences.len()), (7, 0));
+        let (zeros, new) = (sha256(&[0; 1088]), sha256(&fresh_image(1)));
+        let from = format!(
+            "# a at level 14: plain\n\
+             new a 1088 = - {zeros}\n\
+             check a = 11 {zeros}\n\
+             fresh a = 0 {new}\n\
+             new b 1024 = - {}\n\
+             to_old a b = 0 {new} {fresh}\n\
+             to_new b a = 0 {fresh} {new}\n\
+             to_new a b = 1 {new} {fresh}\n",
+            sha256(&[0; 1024]),
+        );
+        let replayed = replay(&Model, &from);
+        assert_eq!((replayed.compared, replayed.differences.len()), (7, 0));
     }
 }

@@ -1,7 +1,7 @@
 -- `bcf_delete` packs what a delete gives.
 use mathlib.Core.Path.{_≡_, _∙_}
-use Rattle.crumbmap.specs.Layouts.{layout1}
-use Rattle.machine.specs.Calls.{deleteOf}
+use Rattle.crumbmap.specs.Layouts.{known}
+use Rattle.form.specs.Calls.{deleteOf}
 use Rattle.answers.specs.Pairs.{saidOf, answerValue}
 use Rattle.answers.proofs.PairLaws.{said-changed}
 use Rattle.capi.proofs.ResultLaws.{within-packs}
@@ -14,10 +14,10 @@ abbrev start : tie.After-changed → tie.Start
 start c = c .before .before .before .before .before .before
 
 -- the number and the value of the answer
-said : (c : tie.After-changed) → c .changed .result ≡ saidOf answerValue (deleteOf layout1 (start c .args .image .now) (start c .args .hash))
+said : (c : tie.After-changed) → c .changed .result ≡ saidOf answerValue (deleteOf known (start c .args .image .now) (start c .args .hash))
 said c =
     let i = c .before .before .before in
-    said-changed (deleteOf layout1 (start c .args .image .now) (start c .args .hash)) (i .delete .result) _ (c .changed .ensures) (i .delete .ensures .answer)
+    said-changed (deleteOf known (start c .args .image .now) (start c .args .hash)) (i .delete .result) _ (c .changed .ensures) (i .delete .ensures .answer)
 
 packed-requires : tie.Need-packed-requires
 packed-requires c κs = let s = start c in rw (said c) (within-packs (delete-fits (s .args .image .now) (s .args .hash) (s .fits .hash .fits)))

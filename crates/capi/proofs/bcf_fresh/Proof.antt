@@ -2,9 +2,9 @@
 use mathlib.Core.Path.{_≡_, _∙_}
 use Prim.Native.Nat.{ℕ}
 use mathlib.Core.List.{List}
-use Rattle.crumbmap.specs.Layouts.{layout1}
+use Rattle.crumbmap.specs.Layouts.{known}
 use Rattle.machine.specs.Results.{Result}
-use Rattle.machine.specs.Calls.{freshOf}
+use Rattle.form.specs.Calls.{freshOf}
 use Rattle.answers.specs.Pairs.{saidOf}
 use Rattle.capi.specs.Packing.{nothing}
 use Rattle.capi.proofs.ResultLaws.{within-packs, said-done}
@@ -15,7 +15,7 @@ use Rattle.capi.proofs.bcf_fresh.Tie as tie
 
 -- what is asked of the machine
 abbrev asked : tie.After-done → Result (List ℕ)
-asked c = let a = c .before .before .before .before .before .before .args in freshOf layout1 (a .image .now)
+asked c = let a = c .before .before .before .before .before .before .args in freshOf known 1 (a .image .now)
 
 -- the number and the value of the answer
 said : (c : tie.After-done) → c .done .result ≡ saidOf nothing (asked c)

@@ -1,7 +1,7 @@
 -- `bcf_insert` packs what an insert gives.
 use mathlib.Core.Path.{_≡_, _∙_}
-use Rattle.crumbmap.specs.Layouts.{layout1}
-use Rattle.machine.specs.Calls.{insertOf}
+use Rattle.crumbmap.specs.Layouts.{known}
+use Rattle.form.specs.Calls.{insertOf}
 use Rattle.answers.specs.Pairs.{saidOf, answerValue}
 use Rattle.answers.proofs.PairLaws.{said-changed}
 use Rattle.capi.proofs.ResultLaws.{within-packs}
@@ -14,10 +14,10 @@ abbrev start : tie.After-changed → tie.Start
 start c = c .before .before .before .before .before .before
 
 -- the number and the value of the answer
-said : (c : tie.After-changed) → c .changed .result ≡ saidOf answerValue (insertOf layout1 (start c .args .image .now) (start c .args .hash))
+said : (c : tie.After-changed) → c .changed .result ≡ saidOf answerValue (insertOf known (start c .args .image .now) (start c .args .hash))
 said c =
     let i = c .before .before .before in
-    said-changed (insertOf layout1 (start c .args .image .now) (start c .args .hash)) (i .insert .result) _ (c .changed .ensures) (i .insert .ensures .answer)
+    said-changed (insertOf known (start c .args .image .now) (start c .args .hash)) (i .insert .result) _ (c .changed .ensures) (i .insert .ensures .answer)
 
 packed-requires : tie.Need-packed-requires
 packed-requires c κs = let s = start c in rw (said c) (within-packs (insert-fits (s .args .image .now) (s .args .hash) (s .fits .hash .fits)))

@@ -3,9 +3,9 @@ use mathlib.Core.Path.{_≡_, _∙_}
 use Prim.Native.Nat.{ℕ}
 use mathlib.Core.List.{List}
 use lib.ListN.{length}
-use Rattle.crumbmap.specs.Layouts.{layout1}
+use Rattle.crumbmap.specs.Layouts.{known}
 use Rattle.machine.specs.Results.{Result}
-use Rattle.machine.specs.OccupancyPages.{occupancyOf}
+use Rattle.form.specs.Calls.{occupancyOf}
 use Rattle.answers.specs.Pairs.{saidOf}
 use Rattle.capi.specs.Packing.{nothing}
 use Rattle.capi.proofs.ResultLaws.{within-packs, said-done}
@@ -20,7 +20,7 @@ start c = c .before .before .before .before .before .before .before
 
 -- what is asked of the machine
 abbrev asked : tie.After-done → Result (List ℕ)
-asked c = let a = start c .args in occupancyOf layout1 (a .image .now) (a .page) (length (a .out .now))
+asked c = let a = start c .args in occupancyOf known (a .image .now) (a .page) (length (a .out .now))
 
 -- the number and the value of the answer
 said : (c : tie.After-done) → c .done .result ≡ saidOf nothing (asked c)

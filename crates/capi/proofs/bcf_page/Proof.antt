@@ -1,10 +1,10 @@
 -- `bcf_page` packs what a page gives.
 use mathlib.Core.Path.{_≡_, _∙_}
 use lib.ListN.{length}
-use Rattle.crumbmap.specs.Layouts.{layout1}
+use Rattle.crumbmap.specs.Layouts.{known}
 use Rattle.machine.specs.Results.{Result}
 use Rattle.machine.specs.Pages.{Run}
-use Rattle.machine.specs.Calls.{pageOf}
+use Rattle.form.specs.Calls.{pageOf}
 use Rattle.answers.specs.Pairs.{saidOf}
 use Rattle.capi.specs.Packing.{runWord}
 use Rattle.capi.proofs.ResultLaws.{within-packs, within-mapped, said-paged}
@@ -21,7 +21,7 @@ paged-requires c κs =
 
 -- what is asked of the machine
 abbrev asked : tie.After-paged → Result Run
-asked c = let a = c .before .before .before .before .before .before .before .args in pageOf layout1 (a .image .now) (a .start) (length (a .out .now))
+asked c = let a = c .before .before .before .before .before .before .before .args in pageOf known (a .image .now) (a .start) (length (a .out .now))
 
 -- the number and the value of the answer
 said : (c : tie.After-paged) → c .paged .result ≡ saidOf runWord (asked c)

@@ -42,9 +42,9 @@ use denote.Triple.Table.{entered, cited}
 use denote.Triple.Walked.{Stays, stay-slice, stay-none-slice, walkOf, AllGo, goes-slice, goes-none-slice, Walks, ends-at, walked, walk-meets}
 use denote.Exit.{yes}
 use denote.Signature.{plain}
-use Rattle.crumbmap.specs.Layouts.{layout1}
+use Rattle.crumbmap.specs.Layouts.{known}
 use Rattle.answers.specs.Pairs.{saidOf, itself}
-use Rattle.machine.specs.Rows.{rowOf}
+use Rattle.form.specs.Calls.{rowOf}
 use Rattle.answers.specs.Rows.{hashes, entriesOf, rowedOf, Rows}
 use Rattle.answers.specs.declared.Entry.{Entry}
 use Rattle.answers.specs.declared.RowResult.{RowResult}
@@ -81,17 +81,17 @@ use Rattle.capi.proofs.bcf_row.Code.Mir as pieces
 
 -- what the function ensures, of the image, the entries before, the result and the entries after
 abbrev Told : List ℕ → List Entry → ℕ → List Entry → Type 0
-Told img ys r zs = (r ≡ packed rowWord (rowOf layout1 img (hashes ys))) × (zs ≡ entriesOf (rowOf layout1 img (hashes ys)) ys)
+Told img ys r zs = (r ≡ packed rowWord (rowOf known img (hashes ys))) × (zs ≡ entriesOf (rowOf known img (hashes ys)) ys)
 
 -- it is had from what the three calls ensure
-tells : (img : List ℕ) (ys zs : List Entry) (a : RowResult) (s : Said) (r : ℕ) → Rows layout1 img ys a zs → s ≡ saidOf itself (rowedOf a) → r ≡ pack s
+tells : (img : List ℕ) (ys zs : List Entry) (a : RowResult) (s : Said) (r : ℕ) → Rows img ys a zs → s ≡ saidOf itself (rowedOf a) → r ≡ pack s
     → Told img ys r zs
-tells img ys zs a s r e e₁ e₂ = (e₂ ∙ ap pack (said-rowed (rowOf layout1 img (hashes ys)) a s e₁ (e .answer)), e .entries)
+tells img ys zs a s r e e₁ e₂ = (e₂ ∙ ap pack (said-rowed (rowOf known img (hashes ys)) a s e₁ (e .answer)), e .entries)
 
 -- and what they give can be packed
-fits : (img : List ℕ) (ys zs : List Entry) (a : RowResult) (s : Said) → Rows layout1 img ys a zs → s ≡ saidOf itself (rowedOf a) → Packs s
+fits : (img : List ℕ) (ys zs : List Entry) (a : RowResult) (s : Said) → Rows img ys a zs → s ≡ saidOf itself (rowedOf a) → Packs s
 fits img ys zs a s e e₁ =
-    rw (said-rowed (rowOf layout1 img (hashes ys)) a s e₁ (e .answer)) (within-packs (row-fits img (hashes ys) (e .held)))
+    rw (said-rowed (rowOf known img (hashes ys)) a s e₁ (e .answer)) (within-packs (row-fits img (hashes ys) (e .held)))
 
 -- a goal P ∗ (⌜φ⌝ ∗ ⌜ψ⌝), as two `ensures` leave it: both are shown, and P is left
 says-both : {M : Type 1} {𝓤 : URA M} {H : Heap 𝓤} {A : Atoms 𝓤} {K : Type 0} {W : Given 𝓤 H A} {Γ : List (Item 𝓤)} → K → {φ ψ : Type 0} {P : SProp 𝓤}
@@ -242,7 +242,7 @@ module _ {M : Type 1} (𝓤 : URA M) (H : Heap 𝓤) (A : Atoms 𝓤) (W : Given
           lent T.the-row κ κ′ q q′ img b o γ 𝓤 H A W ys ! tt (λ ν δ. Asks 𝓤 H A mem run .pre (to ν δ)) asks (λ ν δ.
           calls-at ! fm (Asks 𝓤 H A mem run) known-row (to ν δ) (and-then ! (load ! (from ! (stop !)) (look ! 15 refl))
           (and-then ! (load ! (from ! (stop !)) (look ! 5 refl)) (no-more !))) (λ w.
-          back T.the-row κ κ′ q q′ img b o γ 𝓤 H A W ys R.the-row Last (λ ws. ws .1 .0) (λ ws. ftrue) (Rows layout1 (img .now) ys) ! tt ν δ w room
+          back T.the-row κ κ′ q q′ img b o γ 𝓤 H A W ys R.the-row Last (λ ws. ws .1 .0) (λ ws. ftrue) (Rows (img .now) ys) ! tt ν δ w room
           (λ r zs e l is.
           land ! (from ! (stop !)) (init ! 10 refl (EL.lawful R.the-type R′.the-laws 𝓤 H A W tt .typed r _ is .0)) $
           rewrite ! 10 (λ (u : Val). ‵ (fat fullShare R′.mir l₄ 0 u)) (ap only (EL.tells R.the-type R′.the-laws r _ is)) refl $

@@ -20,8 +20,11 @@ use Rattle.machine.specs.Bags.{fromFirst}
 use Rattle.machine.specs.Machine.{changed, bagIn, deleteAt}
 use Rattle.answers.specs.Answers.{refusal, Changes}
 use Rattle.answers.specs.declared.ChangeResult.{ChangeResult}
+use Rattle.answers.specs.declared.ChangeResult.the-variants as C
+use Rattle.answers.specs.declared.Refusal.the-variants.{Miscounted}
 use Rattle.image.specs.declared.Target.{Target}
 use Rattle.image.specs.Steps.ImageReads.{At, Placed, FrontRead, BackRead, FrontFull, FrontSwapAt}
+use Rattle.tails.specs.Steps.Changing.{within}
 use Rattle.deletion.specs.declared.Departure.{Departure}
 use Rattle.deletion.specs.declared.Leaving.{Leaving}
 use Rattle.deletion.specs.declared.Leaving.the-variants as W
@@ -47,6 +50,13 @@ departing w K.Nothing = W.Nothing
 abbrev pub leaving : Overflow → ℕ → Option Found → Leaving
 leaving w x none = W.Nothing
 leaving w x (some s) = W.Member (record { way = w; slot = s .slot; key = x })
+
+-- the refusal of a plan for which the total has no room
+abbrev pub roomless : DeletePlan → ChangeResult
+roomless (P.Refused why) = C.Refused why
+roomless (P.Leaves slot) = C.Refused Miscounted
+roomless (P.Refills r) = C.Refused Miscounted
+roomless (P.TakesOut d) = C.Refused Miscounted
 
 module _ (L : Layout) where
   -- the smallest member of a backyard bucket that carries a crumb
@@ -84,9 +94,9 @@ module _ (L : Layout) where
 
   -- ---- the plan
 
-  -- a delete at a target, as the machine has it
-  abbrev pub DeletesAt : Target → List ℕ → ChangeResult → List ℕ → Type 0
-  DeletesAt t old r new = Changes (deleteAt L (t .size) (t .front .0) (t .key) old) old r new
+  -- a delete at a target, as the machine has it, where the total has room or not
+  abbrev pub DeletesAt : Target → Bool → List ℕ → ChangeResult → List ℕ → Type 0
+  DeletesAt t room old r new = Changes (within room (deleteAt L (t .size) (t .front .0) (t .key) old)) old r new
 
   -- a front bucket of n members, none of them the key
   pub record Elsewhere (t : Target) (n : ℕ) (img : List ℕ) : Type 0 where

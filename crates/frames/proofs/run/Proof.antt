@@ -11,7 +11,7 @@ use Rattle.frames.proofs.run.Tie as tie
 
 abbrev Inv-loop : tie.InvT-loop
 Inv-loop image₀ line₀ out₀ held₀ turns₀ image line out held turns =
-    (length image ≡ 2176) × (length line ≡ 19) × (length out ≡ 29397) × (held ≤ 19) × Came image (take held line)
+    (length image ≡ 2240) × (length line ≡ 19) × (length out ≡ 29397) × (held ≤ 19) × Came image (take held line)
 
 abbrev μ-loop : tie.MeasureT-loop
 μ-loop image₀ line₀ out₀ held₀ turns₀ image line out held turns = turns

@@ -10,7 +10,7 @@ use Rattle.frames.proofs.take_in.Tie as tie
 
 abbrev Inv-loop : tie.InvT-loop
 Inv-loop image₀ buffer n line₀ held out₀ h₀ at₀ image line out h at =
-    (at ≤ n) × (length image ≡ 2176) × (length line ≡ 19) × (length out ≡ 29397) × (h ≤ 19)
+    (at ≤ n) × (length image ≡ 2240) × (length line ≡ 19) × (length out ≡ 29397) × (h ≤ 19)
     × Took image₀ (take held line₀) (take n buffer) at image (take h line)
 
 abbrev μ-loop : tie.MeasureT-loop

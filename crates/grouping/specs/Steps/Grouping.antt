@@ -1,4 +1,5 @@
--- One entry of a row: what of its group's buckets has been read, and what the entry makes of the state and of itself.
+-- One entry of a row: what of its group's buckets has been read, and what the entry makes of the state and of itself. An image here is a body,
+-- but in `begun`.
 use mathlib.Core.Path.{_≡_}
 use Prim.Native.Nat.{ℕ, suc, _+_, _*_, _-_, _^_, _%_, _<_, _≤_, max}
 use mathlib.Core.Bool.{cond}
@@ -7,13 +8,14 @@ use mathlib.Core.Option.{Option, none, some}
 use lib.ListN.{length, getD}
 use lib.Dec.{eqb, ltb, leb}
 use Rattle.multiset.specs.Multisets.{foundIn, largest}
-use Rattle.crumbmap.specs.Layouts.{Layout, keys, fronts}
+use Rattle.crumbmap.specs.Layouts.{Layout, Numbering, keys, fronts}
 use Rattle.crumbmap.specs.Fingerprints.{frontOf, keyOf}
 use Rattle.crumbmap.specs.CrumbMap.{firstBucket, secondBucket, firstCrumb}
 use Rattle.machine.specs.Results.{Result, accepted, refused, andThen, number}
-use Rattle.machine.specs.Images.{bucketAt, inFront, inBack}
+use Rattle.machine.specs.Images.{sizeOf, bucketAt, inFront, inBack}
 use Rattle.machine.specs.Machine.{Asked, askAt}
 use Rattle.machine.specs.Calls.{askOf}
+use Rattle.form.specs.Tails.{body, opened}
 use Rattle.answers.specs.Rows.{receivedOf}
 use Rattle.answers.specs.declared.Entry.{Entry}
 use Rattle.image.specs.Steps.ImageReads.{Whole, FrontIn, FrontRead, BackRead, Exceeds}
@@ -183,17 +185,14 @@ module _ (L : Layout) where
 
 -- ---- the state before the first entry, between two sweeps, and at the end
 
--- in phase p with nothing read, by the image's size: a wrong length is refused at once
-abbrev pub startedAt : ℕ → Option ℕ → State
-startedAt p none = record { phase = 3; number = 1; reads = 0; bound = 0; size = 0; table = 0; front = 0; total = 0 }
-startedAt p (some B) = record { phase = p; number = 0; reads = 0; bound = 0; size = B; table = 0; front = 0; total = 0 }
+-- in phase p with nothing read, by the image's size and the number that stands already: a wrong length is refused at once
+abbrev pub startedAt : ℕ → Option ℕ → ℕ → State
+startedAt p none n = record { phase = 3; number = 1; reads = 0; bound = 0; size = 0; table = 0; front = 0; total = 0 }
+startedAt p (some B) n = record { phase = p; number = n; reads = 0; bound = 0; size = B; table = 0; front = 0; total = 0 }
 
--- before the front buckets are fetched, and before the test
-abbrev pub begun : Option ℕ → State
-begun = startedAt 0
-
-abbrev pub opened : Option ℕ → State
-opened = startedAt 1
+-- before the front buckets are fetched, by an image's length and its tail: "a bad tail gets 11", which stands until the order was tested
+abbrev pub begun : Numbering → List ℕ → State
+begun layouts img = startedAt 0 (sizeOf (length (body img))) (number (opened layouts img))
 
 -- after the test the entries receive their answers, or the row is refused
 abbrev pub settled : State → State
@@ -210,10 +209,13 @@ settled s = record {
 
 -- between two sweeps
 abbrev pub resumed : State → State
-resumed s = cond (eqb (s .phase) 0) (opened (some (s .size))) (settled s)
+resumed s = cond (eqb (s .phase) 0) (startedAt 1 (some (s .size)) (s .number)) (settled s)
 
--- what the row gives
+-- the refusal that a state tells of, and what the row gives
+abbrev pub refusalOf : State → Result ℕ
+refusalOf s =
+    cond (eqb (s .number) 1) (refused 1 0)
+    (cond (eqb (s .number) 10) (refused 10 0) (cond (eqb (s .number) 11) (refused 11 0) (refused 3 (s .table))))
+
 abbrev pub resultOf : State → Result ℕ
-resultOf s =
-    cond (eqb (s .number) 0) (accepted (s .total))
-    (cond (eqb (s .number) 1) (refused 1 0) (cond (eqb (s .number) 10) (refused 10 0) (refused 3 (s .table))))
+resultOf s = cond (eqb (s .number) 0) (accepted (s .total)) (refusalOf s)

@@ -17,13 +17,11 @@ use Rattle.minifilter.specs.Steps.Readings.{SoundFront, SoundBack}
 use Rattle.minifilter.specs.declared.Reading.{Reading}
 use Rattle.minifilter.specs.declared.Reading.the-variants as R
 use Rattle.machine.specs.Results.{accepted, refused}
-use Rattle.machine.specs.Images.{sizeOf, lengthOf, bucketAt, frontAt, backAt, inFront, inBack}
+use Rattle.machine.specs.Images.{lengthOf, bucketAt, frontAt, backAt, inFront, inBack}
 use Rattle.machine.specs.Machine.{backyard}
 use Rattle.image.specs.declared.Size.{Size}
 use Rattle.image.specs.declared.Size.the-variants.{Buckets, Wrong}
 use Rattle.image.specs.declared.Target.{Target}
-use Rattle.image.specs.declared.Located.{Located}
-use Rattle.image.specs.declared.Located.the-variants as Loc
 use Rattle.image.specs.declared.BackReading.{BackReading}
 use Rattle.image.specs.declared.BackyardReading.{BackyardReading}
 use Rattle.image.specs.declared.BackyardReading.the-variants as Y
@@ -60,17 +58,13 @@ pub record At (x i : ℕ) (xs : List ℕ) : Type 0 where
 -- ---- what a hash names, and what was read
 
 module _ (L : Layout) where
-  -- the size, front bucket and key of hash k in an image of n bytes
-  pub record Locates (n k : ℕ) (t : Target) : Type 0 where
-    pub sized : sizeOf n ≡ some (t .size)
-    pub front : t .front .0 ≡ frontOf (t .size) k
+  -- what hash k names in an image of size B: its front bucket and its key
+  pub record Locates (B k : ℕ) (t : Target) : Type 0 where
+    pub size : t .size ≡ B
+    pub front : t .front .0 ≡ frontOf B k
     pub key : t .key ≡ keyOf L k
-    pub inside : t .front .0 < fronts (t .size)
+    pub inside : t .front .0 < fronts B
     pub low : t .key < keys L
-
-  abbrev pub LocatedIn : ℕ → ℕ → Located → Type 0
-  LocatedIn n k (Loc.At t) = Locates n k t
-  LocatedIn n k Loc.Wrong = sizeOf n ≡ none
 
   -- a target that fits an image
   pub record Placed (t : Target) (img : List ℕ) : Type 0 where

@@ -11,9 +11,12 @@ use Rattle.machine.specs.Images.{inFront, inBack, putFront, putBack}
 use Rattle.machine.specs.Machine.{changed, insertAt}
 use Rattle.answers.specs.Answers.{refusal, Changes}
 use Rattle.answers.specs.declared.ChangeResult.{ChangeResult}
+use Rattle.answers.specs.declared.ChangeResult.the-variants as C
+use Rattle.answers.specs.declared.Refusal.the-variants.{Miscounted}
 use Rattle.image.specs.declared.Target.{Target}
 use Rattle.image.specs.declared.BackReading.{BackReading}
 use Rattle.image.specs.Steps.ImageReads.{Placed, FrontFull, FrontJoin, BackJoin}
+use Rattle.tails.specs.Steps.Changing.{within}
 use Rattle.insertion.specs.declared.InsertPlan.{InsertPlan}
 use Rattle.insertion.specs.declared.InsertPlan.the-variants as P
 use Rattle.insertion.specs.declared.Spilling.{Spilling}
@@ -30,10 +33,16 @@ takingOf (some false) = T.Second
 abbrev pub spillingTo : ℕ → ℕ → BackReading → InsertPlan
 spillingTo over slot r = P.Spills (record { over = over; slot = slot; way = r .way; to = r .below })
 
+-- the refusal of a plan for which the total has no room
+abbrev pub roomless : InsertPlan → ChangeResult
+roomless (P.Refused why) = C.Refused why
+roomless (P.Joins slot) = C.Refused Miscounted
+roomless (P.Spills s) = C.Refused Miscounted
+
 module _ (L : Layout) where
-  -- an insert at a target, as the machine has it
-  abbrev pub InsertsAt : Target → List ℕ → ChangeResult → List ℕ → Type 0
-  InsertsAt t old r new = Changes (insertAt L (t .size) (t .front .0) (t .key) old) old r new
+  -- an insert at a target, as the machine has it, where the total has room or not
+  abbrev pub InsertsAt : Target → Bool → List ℕ → ChangeResult → List ℕ → Type 0
+  InsertsAt t room old r new = Changes (within room (insertAt L (t .size) (t .front .0) (t .key) old)) old r new
 
   -- the target's front bucket is full, and so many of its members are below the key
   pub record FullAt (t : Target) (slot : ℕ) (img : List ℕ) : Type 0 where

@@ -28,7 +28,7 @@ pub record Turn (img held bytes text img′ held′ : List ℕ) : Type 0 where
 
 -- an image with B = 3, a line of which so many bytes are held, and an output with room for the longest text
 pub record Room (img line : List ℕ) (held : ℕ) (out : List ℕ) : Type 0 where
-  pub image : length img ≡ 2176
+  pub image : length img ≡ 2240
   pub longest : length line ≡ 19
   pub few : held ≤ 19
   pub text : length out ≡ 29397

@@ -56,6 +56,7 @@ use denote.Triple.Walked.{says, needs, Stays, stay-slice, stay-none-slice, stay-
 use denote.Exit.{yes}
 use denote.Signature.{plain}
 use Rattle.crumbmap.specs.Layouts.{layout1}
+use Rattle.form.specs.Tails as form
 use Rattle.rows.specs.Steps.Sweeps.{stateAfter, rowAfter, AllReady}
 use Rattle.answers.specs.declared.Entry.{Entry}
 use Rattle.grouping.specs.Steps.Grouping.{turned, Ready}
@@ -121,6 +122,10 @@ module _ {M : Type 1} (𝓤 : URA M) (H : Heap 𝓤) (A : Atoms 𝓤) (W : Given
   abbrev x : List Entry → RefT (List Entry)
   x l = record { ptr = (b, o); name = γ; now = l }
 
+  -- the body of the image
+  abbrev bytes : List ℕ
+  bytes = form.body (img .now)
+
   -- the machine values of the two slices
   abbrev vi : Val
   vi = sliceVal (img .ptr) (length (img .now))
@@ -159,7 +164,7 @@ module _ {M : Type 1} (𝓤 : URA M) (H : Heap 𝓤) (A : Atoms 𝓤) (W : Given
       ∷ ‵ (flft κ q) ∷ ‵ Img ∷ []
 
   exits : (s : State) (zs : List Entry) → IsState s₀ → IsState s → Room T.the-row n → length zs ≡ n
-      → (s ≡ stateAfter layout1 (img .now) s₀ ys) × (zs ≡ rowAfter layout1 (img .now) s₀ ys) × Small (2 ^ 64) (hashes ys)
+      → (s ≡ stateAfter layout1 bytes s₀ ys) × (zs ≡ rowAfter layout1 bytes s₀ ys) × Small (2 ^ 64) (hashes ys)
       → ent 𝓤 (⋆ 𝓤 H A (Had zs)) (Post (state-val s))
   exits s zs is₀ is room long e =
       qed W (Had zs) ∵ suffices ! _
@@ -177,7 +182,7 @@ module _ {M : Type 1} (𝓤 : URA M) (H : Heap 𝓤) (A : Atoms 𝓤) (W : Given
   abbrev to : State → Entry → Turn 𝓤 H A mem run .Ghost
   to s e = (((κ, tt), (q, tt), tt, (img, (phase, (s, (e, tt)))), (vi ∷ [], (vint w32 phase ∷ [], (state-val s ∷ [], (entry-val e ∷ [], tt))))), tt)
 
-  asked : (s : State) (e : Entry) → Ready layout1 (img .now) phase s (e .hash) → phase < 2 ^ 32 → IsState s → Is T.the-row e (entry-val e ∷ [])
+  asked : (s : State) (e : Entry) → Ready layout1 bytes phase s (e .hash) → phase < 2 ^ 32 → IsState s → Is T.the-row e (entry-val e ∷ [])
       → ent 𝓤 (sep 𝓤 (A .lft κ q) (sem 𝓤 H A Img)) (Turn 𝓤 H A mem run .pre (to s e))
   asked s e ready small is-s is-e =
       qed W (‵ (flft κ q) ∷ ‵ Img ∷ []) ∵ says ! ready $ nothing ! $ move ! (1 ∷ 0 ∷ []) $ join ! $ move ! (1 ∷ []) $
@@ -189,11 +194,11 @@ module _ {M : Type 1} (𝓤 : URA M) (H : Heap 𝓤) (A : Atoms 𝓤) (W : Given
   abbrev Said : State → Entry → Turned → SProp 𝓤
   Said s e r = ensured 𝓤 H A turn.ended (turn.clauses 𝓤 H A mem run) (κ, tt) (img, (phase, (s, (e, tt)))) tt r
 
-  said : (s : State) (e : Entry) (r : Turned) → ent 𝓤 (Said s e r) (fact 𝓤 (r ≡ turned layout1 (img .now) phase s e))
-  said s e r = exE 𝓤 _ (λ ws. snd∗ 𝓤 (sem 𝓤 H A (lasts turn.ended (κ, tt) (img, (phase, (s, (e, tt)))) ws)) (fact 𝓤 (r ≡ turned layout1 (img .now) phase s e)))
+  said : (s : State) (e : Entry) (r : Turned) → ent 𝓤 (Said s e r) (fact 𝓤 (r ≡ turned layout1 bytes phase s e))
+  said s e r = exE 𝓤 _ (λ ws. snd∗ 𝓤 (sem 𝓤 H A (lasts turn.ended (κ, tt) (img, (phase, (s, (e, tt)))) ws)) (fact 𝓤 (r ≡ turned layout1 bytes phase s e)))
 
   module _ (𝓣 : Tables 𝓤 H) (known : Triple 𝓤 (𝓣 .C #grouping·turn·turn) (Turn 𝓤 H A mem run)) (is₀ : IsState s₀) (room : Room T.the-row n)
-      (all : AllReady layout1 (img .now) s₀ ys) where
+      (all : AllReady layout1 bytes s₀ ys) where
     abbrev C : Calls 𝓤 H
     C = 𝓣 .C
 
@@ -233,7 +238,7 @@ module _ {M : Type 1} (𝓤 : URA M) (H : Heap 𝓤) (A : Atoms 𝓤) (W : Given
       Here p = ⋆ 𝓤 H A (At (p .0) (p .1 .0) (p .1 .1))
 
       abbrev Facts : ℕ → Place → Type 0
-      Facts t p = (t ≡ n - p .0) × (Kept layout1 (img .now) s₀ ys (p .0) (p .1 .0) (p .1 .1) × IsState (p .1 .0))
+      Facts t p = (t ≡ n - p .0) × (Kept layout1 bytes s₀ ys (p .0) (p .1 .0) (p .1 .1) × IsState (p .1 .0))
 
       abbrev Inv : ℕ → SProp 𝓤
       Inv t = ex 𝓤 (λ (p : Place). guard 𝓤 (Facts t p) (Here p))
@@ -289,14 +294,14 @@ module _ {M : Type 1} (𝓤 : URA M) (H : Heap 𝓤) (A : Atoms 𝓤) (W : Given
           -- the call: a copy of what image owns, and the token, go to `turn`
           move ! (14 ∷ []) $ use1 W (‵ Img ⊛ ‵ Img) (shr-slice-copy 𝓤 H A W (named 0) κ u8 .twice img (vi ∷ [])) $ split ! $
           move ! (15 ∷ 0 ∷ []) $ use2 W (raw (Turn 𝓤 H A mem run .pre (to s e)))
-          (asked s e (ready-at layout1 (img .now) s₀ ys i s zs blank small (g .1 .0)) phase-fits (g .1 .1) is-e) $
+          (asked s e (ready-at layout1 bytes s₀ ys i s zs blank small (g .1 .0)) phase-fits (g .1 .1) is-e) $
           calls-at ! (fmOf 𝓤 H (W .laws) 𝓣) (Turn 𝓤 H A mem run) known (to s e) (and-then ! (load ! (from ! (stop !)) (look ! 11 refl))
           (and-then ! (load ! (from ! (stop !)) (look ! 18 refl)) (and-then ! (load ! (from ! (stop !)) (look ! 4 refl))
           (and-then ! (load ! (from ! (stop !)) (look ! 9 refl)) (no-more !))))) (λ w.
           use1 W (later (some (λ (r : Turned). ((‵ (flft κ q) ⊛ ‵ ftrue) ⊛ ‵ (U.the-row .own r (w ∷ []))) ⊛ raw (Said s e r)))) (id⊢ 𝓤 _) $
           await ! tt $ pick ! (λ r.
-          split ! $ move ! (1 ∷ []) $ use1 W (raw (fact 𝓤 (r ≡ turned layout1 (img .now) phase s e))) (said s e r) $
-          heard ! (r ≡ turned layout1 (img .now) phase s e) (λ same. split ! $ move ! (1 ∷ []) $
+          split ! $ move ! (1 ∷ []) $ use1 W (raw (fact 𝓤 (r ≡ turned layout1 bytes phase s e))) (said s e r) $
+          heard ! (r ≡ turned layout1 bytes phase s e) (λ same. split ! $ move ! (1 ∷ []) $
           -- [the result; the token; image; the row; _6; _5; _7; …]
           peeks ! U.the-row (Is U.the-row) (shows 𝓤 H A U.the-row) r (w ∷ []) (λ is.
           let fields = LL.owed U.the-type U′.the-laws r _ is in
@@ -324,7 +329,7 @@ module _ {M : Type 1} (𝓤 : URA M) (H : Heap 𝓤) (A : Atoms 𝓤) (W : Given
           keep ! (0 ∷ 3 ∷ 4 ∷ 5 ∷ 6 ∷ 7 ∷ 8 ∷ 9 ∷ 10 ∷ 11 ∷ 12 ∷ 13 ∷ 14 ∷ 1 ∷ 2 ∷ 15 ∷ 16 ∷ 17 ∷ 18 ∷ 19 ∷ 20 ∷ 21 ∷ 22 ∷ 23
           ∷ 24 ∷ 25 ∷ 26 ∷ 27 ∷ 28 ∷ 29 ∷ 30 ∷ 31 ∷ []) $
           by ! (below t (n - (i + 1)) (i + 1, (r .state, set zs i (r .entry))) (omega (arith, g .0))
-          (refl, (swept.more layout1 (img .now) s₀ ys i s zs blank r small (g .1 .0) (LL.owed T.the-type T′.the-laws e _ is-e .0 .1) same, fields .0)))))))))
+          (refl, (swept.more layout1 bytes s₀ ys i s zs blank r small (g .1 .0) (LL.owed T.the-type T′.the-laws e _ is-e .0 .1) same, fields .0)))))))))
 
       -- the turn that leaves the loop, and the rest of the body: the borrow is closed
       ends : (t i : ℕ) (s : State) (zs : List Entry) → n ≤ i → Facts t (i, (s, zs))
@@ -350,7 +355,7 @@ module _ {M : Type 1} (𝓤 : URA M) (H : Heap 𝓤) (A : Atoms 𝓤) (W : Given
           move ! (3 ∷ 11 ∷ []) $ free1 ! $ move ! (3 ∷ 10 ∷ []) $ free1 ! $ move ! (3 ∷ 9 ∷ []) $ free1 ! $ move ! (3 ∷ 8 ∷ []) $ free1 ! $
           move ! (3 ∷ 7 ∷ []) $ free1 ! $ move ! (3 ∷ 6 ∷ []) $ free1 ! $ free0 ! $
           keep ! (0 ∷ 1 ∷ 2 ∷ 3 ∷ 4 ∷ []) $
-          by ! (exits s zs is₀ (g .1 .1) room (g .1 .0 .long) (swept.ends layout1 (img .now) s₀ ys i s zs large (g .1 .0)))
+          by ! (exits s zs is₀ (g .1 .1) room (g .1 .0 .long) (swept.ends layout1 bytes s₀ ys i s zs large (g .1 .0)))
 
       turns : (t : ℕ) → ent 𝓤 (Inv t) (Wp 𝓤 H C Λ En pieces.turn-1 (afterTurn 𝓤 H (Below t) Left))
       turns t =
@@ -360,7 +365,7 @@ module _ {M : Type 1} (𝓤 : URA M) (H : Heap 𝓤) (A : Atoms 𝓤) (W : Given
 
       loops : ent 𝓤 (⋆ 𝓤 H A (At 0 s₀ ys)) (Wp 𝓤 H C Λ En (loop pieces.turn-1) Left)
       loops =
-          via 𝓤 (Inv (n - 0)) (holds (n - 0) (0, (s₀, ys)) (refl, (begins layout1 (img .now) s₀ ys all, is₀)))
+          via 𝓤 (Inv (n - 0)) (holds (n - 0) (0, (s₀, ys)) (refl, (begins layout1 bytes s₀ ys all, is₀)))
           (loop-rule 𝓤 H (W .laws) 𝓣 _<_ (Nat·lt-wfRel .wf) En pieces.turn-1 Left Inv turns (n - 0))
 
       -- the loop, as the part of the body that it begins
@@ -417,7 +422,7 @@ module _ {M : Type 1} (𝓤 : URA M) (H : Heap 𝓤) (A : Atoms 𝓤) (W : Given
   sweep-walks = walked 𝓤 H A f.ended stayed (f.clauses 𝓤 H A mem run) (WpFn 𝓤 H (𝓣 .C) (𝓣 .Λ) code.function)
       (λ κs. (slice-vals, (slice-vals, (LL.vals S.the-type S′.the-laws, tt))))
       (λ κs. (shr-slice-tells (named 0) (κs .0) u8, (mut-slice-tells (named 1) (κs .1 .0) T.the-row, (LL.tells S.the-type S′.the-laws, tt))))
-      (λ κs qs bounds a g are. needs 𝓤 (AllReady layout1 (a .0 .now) (a .1 .1 .0) (a .1 .0 .now)) _ (λ all.
+      (λ κs qs bounds a g are. needs 𝓤 (AllReady layout1 (form.body (a .0 .now)) (a .1 .1 .0) (a .1 .0 .now)) _ (λ all.
       walk-whole 𝓤 H A W mem run (κs .0) (κs .1 .0) (qs .0) (qs .1 .0) (a .0) (a .1 .0 .ptr .0) (a .1 .0 .ptr .1) (a .1 .0 .name)
       (a .1 .0 .now) (a .1 .1 .0) 𝓣 known (are .1 .1 .0) (are .1 .0 .0 .1) all (are .0 .0 .1 .0)))
 

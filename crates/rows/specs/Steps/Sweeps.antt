@@ -1,11 +1,9 @@
 -- A sweep along a row: the state after its entries, what stands in their places, and what must be true of the state and the entries before it.
 use Prim.Native.Nat.{ℕ, _^_, _<_}
 use mathlib.Core.List.{List, [], _∷_}
-use lib.ListN.{length}
 use Rattle.crumbmap.specs.Layouts.{Layout}
-use Rattle.machine.specs.Images.{sizeOf}
 use Rattle.answers.specs.declared.Entry.{Entry}
-use Rattle.grouping.specs.Steps.Grouping.{turned, Ready, begun, resumed}
+use Rattle.grouping.specs.Steps.Grouping.{turned, Ready, resumed}
 use Rattle.grouping.specs.declared.State.{State}
 
 module _ (L : Layout) where
@@ -33,23 +31,16 @@ module _ (L : Layout) where
   abbrev pub AllReady : List ℕ → State → List Entry → Type 0
   AllReady img s es = ReadyFrom img (s .phase) s es
 
-  -- what the first sweep leaves of a row: the state, and the entries
-  abbrev pub fetchedState : List ℕ → List Entry → State
-  fetchedState img es = stateAfter img (begun (sizeOf (length img))) es
+  -- what the second sweep leaves, where the first starts from the state s: the state, and the entries
+  abbrev pub testedState : List ℕ → State → List Entry → State
+  testedState img s es = stateAfter img (resumed (stateAfter img s es)) (rowAfter img s es)
 
-  abbrev pub fetchedRow : List ℕ → List Entry → List Entry
-  fetchedRow img es = rowAfter img (begun (sizeOf (length img))) es
-
-  -- what the second leaves
-  abbrev pub testedState : List ℕ → List Entry → State
-  testedState img es = stateAfter img (resumed (fetchedState img es)) (fetchedRow img es)
-
-  abbrev pub testedRow : List ℕ → List Entry → List Entry
-  testedRow img es = rowAfter img (resumed (fetchedState img es)) (fetchedRow img es)
+  abbrev pub testedRow : List ℕ → State → List Entry → List Entry
+  testedRow img s es = rowAfter img (resumed (stateAfter img s es)) (rowAfter img s es)
 
   -- and what the third leaves
-  abbrev pub toldState : List ℕ → List Entry → State
-  toldState img es = stateAfter img (resumed (testedState img es)) (testedRow img es)
+  abbrev pub toldState : List ℕ → State → List Entry → State
+  toldState img s es = stateAfter img (resumed (testedState img s es)) (testedRow img s es)
 
-  abbrev pub toldRow : List ℕ → List Entry → List Entry
-  toldRow img es = rowAfter img (resumed (testedState img es)) (testedRow img es)
+  abbrev pub toldRow : List ℕ → State → List Entry → List Entry
+  toldRow img s es = rowAfter img (resumed (testedState img s es)) (testedRow img s es)

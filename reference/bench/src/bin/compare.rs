@@ -20,7 +20,7 @@ const SETTINGS: [(u64, u64, usize, usize, usize); 4] = [
 ];
 
 /// The calls on whole images.
-const WHOLE: [&str; 4] = ["page", "merge", "check", "fresh"];
+const WHOLE: [&str; 6] = ["page", "merge", "check", "fresh", "attach", "detach"];
 
 /// A build of `bench` that waits for its next call.
 struct Build {

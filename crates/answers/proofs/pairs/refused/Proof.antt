@@ -30,10 +30,22 @@ returns-8 c = rw (c .before .why2 .given .1)
 returns-9 : tie.Need-returns-9
 returns-9 c = rw (c .enum-told7 .given .1)
 
+returns-10 : tie.Need-returns-10
+returns-10 c = rw (c .enum-told8 .given .1)
+
+returns-11 : tie.Need-returns-11
+returns-11 c = rw (c .enum-told9 .given .1)
+
+returns-12 : tie.Need-returns-12
+returns-12 c = rw (c .enum-told10 .given .1)
+
 pub refused-spec : {M : Type 1} → statement M
 refused-spec =
     tie.close
     (tie.spec
+    (λ c. search needs)
+    (λ c. search needs)
+    (λ c. search needs)
     (λ c. search needs)
     (λ c. search needs)
     (λ c. search needs)
@@ -51,4 +63,7 @@ refused-spec =
     returns-6
     returns-7
     returns-8
-    returns-9)
+    returns-9
+    returns-10
+    returns-11
+    returns-12)

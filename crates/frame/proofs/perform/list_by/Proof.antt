@@ -4,10 +4,11 @@ use mathlib.Core.Path.{_≡_, sym, _∙_, ap}
 use Prim.Native.Nat.{ℕ, _-_, _≤_}
 use mathlib.Core.List.{List}
 use lib.ListN.{length}
-use Rattle.crumbmap.specs.Layouts.{layout1}
+use Rattle.crumbmap.specs.Layouts.{known}
 use Rattle.machine.specs.Results.{Result, accepted}
 use Rattle.machine.specs.Pages.{Run}
-use Rattle.machine.specs.Calls.{pageOf, outputOf}
+use Rattle.machine.specs.Calls.{outputOf}
+use Rattle.form.specs.Calls.{pageOf}
 use Rattle.answers.specs.Answers.{extentOf}
 use Rattle.text.specs.Texts.{over}
 use Rattle.text.specs.Lines.{told}
@@ -23,7 +24,7 @@ abbrev start : tie.After-known-told → tie.Start
 start c = c .before .before .before .before .before .before .before .before .before .before
 
 abbrev asked : tie.After-known-told → Result Run
-asked c = pageOf layout1 (start c .args .image .now) 0 room
+asked c = pageOf known (start c .args .image .now) 0 room
 
 -- what the page gave, and wrote
 listed : (c : tie.After-known-told) → accepted (c .before .n .given .0 .0, c .before .n .given .0 .1 .0) ≡ extentOf (asked c)
@@ -67,8 +68,8 @@ returns-2 c =
     let a = s .args in
     let p = c .before .before .put-line2 .ensures in
     let e = rw (s .pre .0) at (rw (w .why .given .1) at (w .before .before .before .before .page .ensures .answer)) in
-    let t : told 5 (r .refused .result) ≡ listText (pageOf layout1 (a .image .now) 0 room) =
-    rw (r .refused .ensures) (list-refused (pageOf layout1 (a .image .now) 0 room) (w .why .given .0 .0) e)
+    let t : told 5 (r .refused .result) ≡ listText (pageOf known (a .image .now) 0 room) =
+    rw (r .refused .ensures) (list-refused (pageOf known (a .image .now) 0 room) (w .why .given .0 .0) e)
     in
     (p .0 ∙ sym (length-line 5 _ _) ∙ ap length t, p .1 ∙ ap (λ (l : List ℕ). over 0 l (a .out .now)) t)
 

@@ -1,7 +1,7 @@
 -- `perform` calls the library and prints what it gives, a case a frame.
 use mathlib.Core.Path.{refl, _∙_, ap}
-use Rattle.crumbmap.specs.Layouts.{layout1}
-use Rattle.machine.specs.Calls.{insertOf, deleteOf}
+use Rattle.crumbmap.specs.Layouts.{known}
+use Rattle.form.specs.Calls.{insertOf, deleteOf}
 use Rattle.answers.specs.declared.pairs.Said.{Said}
 use Rattle.answers.proofs.PairLaws.{said-changed}
 use Rattle.text.specs.Lines.{told}
@@ -20,7 +20,7 @@ returns c =
     let f = i .before .before .before .before in
     let a = f .before .before .before .before .args in
     let k = f .frame .given .0 .0 in
-    let e = said-changed (insertOf layout1 (a .image .now) k) (i .insert .result) _ (s .changed .ensures) (i .insert .ensures .answer) in
+    let e = said-changed (insertOf known (a .image .now) k) (i .insert .result) _ (s .changed .ensures) (i .insert .ensures .answer) in
     let p = c .before .before .put-line .ensures in
     rw (f .frame .given .1)
     (performs-line (Insert k) (a .image .now) (a .out .now) _ _ _ 1 _ (ap (λ (x : Said). told 1 x) e) (p .0) (p .1) (i .insert .ensures .bytes))
@@ -33,7 +33,7 @@ returns-2 c =
     let f = i .before .before .before .before in
     let a = f .before .before .before .before .args in
     let k = f .frame2 .given .0 .0 in
-    let e = said-changed (deleteOf layout1 (a .image .now) k) (i .delete .result) _ (s .changed2 .ensures) (i .delete .ensures .answer) in
+    let e = said-changed (deleteOf known (a .image .now) k) (i .delete .result) _ (s .changed2 .ensures) (i .delete .ensures .answer) in
     let p = c .before .before .put-line2 .ensures in
     rw (f .frame2 .given .1)
     (performs-line (Delete k) (a .image .now) (a .out .now) _ _ _ 2 _ (ap (λ (x : Said). told 2 x) e) (p .0) (p .1) (i .delete .ensures .bytes))

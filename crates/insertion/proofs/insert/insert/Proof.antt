@@ -1,42 +1,35 @@
--- `insertion::insert::insert` meets its contract. A call at a hash is the machine's call at the hash's target (`located`).
-use mathlib.Core.Path.{sym, refl}
+-- `insertion::insert::insert` meets its contract: opened, or refused before anything else.
 use borrow.Author.Needs.{needs}
-use Rattle.crumbmap.specs.Layouts.{layout1}
-use Rattle.machine.specs.Machine.{insertAt}
-use Rattle.machine.specs.Calls.{insertOf}
-use Rattle.answers.proofs.ChangeLaws.{changes}
-use Rattle.image.proofs.ImageReadLaws.{located, mislaid, placed}
+use Rattle.machine.specs.Calls as M
+use Rattle.form.specs.Tails.{body, raised}
+use Rattle.form.specs.Calls.{changedBy, insertOf}
+use Rattle.answers.proofs.ChangeLaws.{changes, change-refused}
+use Rattle.tails.proofs.OpenLaws.{said-open, said-shut, shut}
 use Rattle.insertion.proofs.insert.insert.Statement.{statement}
 use Rattle.insertion.proofs.insert.insert.Tie as tie
 
--- the points of the walk: the start, the target found
-abbrev start : tie.After-locate → tie.Start
-start c = c .before .before
+-- the points of the walk: the start, the image opened
+abbrev start : tie.After-open-image → tie.Start
+start c = c .before .before .before
 
-abbrev found : tie.After-insert-at-arg → tie.After-locate
-found c = c .before .before .before .before
+abbrev opening : tie.After-known-told2 → tie.After-open-image
+opening c = c .before .before .before
+
+insert-opened-requires : tie.Need-insert-opened-requires
+insert-opened-requires c κs =
+    let o = opening (c .before) in
+    said-open (start o .args .image .now) (o .open-image .ensures) (c .before .before .opened .given .1)
 
 returns : tie.Need-returns
 unfolding insertOf
 returns c =
-    let l = c .before .before in
-    let img = start l .args .image .now in
-    changes (sym (mislaid layout1 img (start l .args .hash) (l .locate .ensures) (λ B f x. insertAt layout1 B f x img) (c .enum-told .given .1)))
-    (record { answer = refl; bytes = refl })
-
-insert-at-requires : tie.Need-insert-at-requires
-insert-at-requires c κs =
-    let l = found c in
-    placed layout1 (start l .args .image .now) (start l .args .hash) (l .locate .ensures) (c .before .before .target .given .1)
-
-returns-2 : tie.Need-returns-2
-unfolding insertOf
-returns-2 c =
-    let a = c .before .before .before in
-    let l = found a in
-    let img = start l .args .image .now in
-    changes (sym (located layout1 img (start l .args .hash) (l .locate .ensures) (λ B f x. insertAt layout1 B f x img) (a .before .before .target .given .1)))
-    (c .before .before .insert-at .ensures)
+    let o = c .before .before .before in
+    let a = start o .args in
+    changes
+    (shut (a .image .now) (c .before .why .given .0 .0)
+    (λ h. changedBy h (M.insertOf (h .layout) (body (a .image .now)) (a .hash)) (raised (h .layout) (h .size) (h .tail)))
+    (said-shut (a .image .now) (o .open-image .ensures) (c .before .why .given .1)))
+    (change-refused (c .before .why .given .0 .0) (a .image .now))
 
 pub insert-spec : {M : Type 1} → statement M
 insert-spec =
@@ -45,7 +38,8 @@ insert-spec =
     (λ c κs. search needs)
     (λ c. search needs)
     (λ c. search needs)
-    returns
-    insert-at-requires
+    insert-opened-requires
     (λ c. search needs)
-    returns-2)
+    returns
+    (λ c. search needs)
+    (λ c. search needs))

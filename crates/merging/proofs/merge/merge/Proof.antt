@@ -1,12 +1,15 @@
 -- `merging::merge::merge` meets its contract. Merge is the machine's at the size that the three images share, or the refusal of their lengths.
-use mathlib.Core.Path.{_≡_, refl, sym, _∙_, ap}
-use mathlib.Core.Option.{some}
+use mathlib.Core.Path.{refl}
+use Prim.Native.Nat.{_-_}
 use lib.ListN.{length}
 use borrow.Author.Needs.{needs}
 use borrow.Author.Tests.{eq-eqb, ne-eqb}
 use Rattle.machine.specs.Images.{sizeOf}
-use Rattle.machine.specs.Calls.{mergeOf}
-use Rattle.image.proofs.ImageReadLaws.{size-some, size-none, whole-of}
+use Rattle.form.specs.Tails.{body}
+use Rattle.form.specs.Calls.{mergeOf}
+use Rattle.image.specs.Steps.ImageReads.{Whole}
+use Rattle.image.proofs.ImageReadLaws.{size-some, size-none, whole-sized}
+use Rattle.tails.proofs.OpenLaws.{form-whole, form-none}
 use Rattle.merging.proofs.merge.merge.Statement.{statement}
 use Rattle.merging.proofs.merge.merge.Tie as tie
 
@@ -14,13 +17,13 @@ use Rattle.merging.proofs.merge.merge.Tie as tie
 abbrev start : tie.After-size → tie.Start
 start c = c .before .before .before .before .before .before
 
-abbrev sized : tie.After-size-of2 → tie.After-size
+abbrev sized : tie.After-form-size2 → tie.After-size
 sized c = c .before .before
 
 abbrev sized2 : tie.After-other → tie.After-size
 sized2 c = sized (c .before .before)
 
-abbrev others : tie.After-size-of3 → tie.After-other
+abbrev others : tie.After-form-size3 → tie.After-other
 others c = c .before .before
 
 abbrev sized3 : tie.After-into → tie.After-other
@@ -30,28 +33,34 @@ abbrev compared : tie.Else2 → tie.After-into
 compared c = c .before .before .before
 
 -- the sizes of the three
-first : (c : tie.After-size) → sizeOf (length (start c .args .first .now)) ≡ some (c .size .given .0 .0)
-first c = size-some (sizeOf (length (start c .args .first .now))) (c .before .before .size-of .ensures) (c .size .given .1)
+first : (c : tie.After-size) → Whole (c .size .given .0 .0) (body (start c .args .first .now))
+first c =
+    let img = start c .args .first .now in
+    form-whole img (size-some (sizeOf (length img - 64)) (c .before .before .form-size .ensures) (c .size .given .1))
 
-second : (c : tie.After-other) → sizeOf (length (start (sized2 c) .args .second .now)) ≡ some (c .other .given .0 .0)
-second c = size-some (sizeOf (length (start (sized2 c) .args .second .now))) (c .before .before .size-of2 .ensures) (c .other .given .1)
+second : (c : tie.After-other) → Whole (c .other .given .0 .0) (body (start (sized2 c) .args .second .now))
+second c =
+    let img = start (sized2 c) .args .second .now in
+    form-whole img (size-some (sizeOf (length img - 64)) (c .before .before .form-size2 .ensures) (c .other .given .1))
 
-target : (c : tie.After-into) → sizeOf (length (start (sized2 (sized3 c)) .args .target .now)) ≡ some (c .into .given .0 .0)
-target c = size-some (sizeOf (length (start (sized2 (sized3 c)) .args .target .now))) (c .before .before .size-of3 .ensures) (c .into .given .1)
+target : (c : tie.After-into) → Whole (c .into .given .0 .0) (body (start (sized2 (sized3 c)) .args .target .now))
+target c =
+    let img = start (sized2 (sized3 c)) .args .target .now in
+    form-whole img (size-some (sizeOf (length img - 64)) (c .before .before .form-size3 .ensures) (c .into .given .1))
 
 returns : tie.Need-returns
 unfolding mergeOf
 returns c =
     let k = c .before .before in
-    let a = k .before .before .before .before .args in
-    rw (size-none (sizeOf (length (a .first .now))) (k .size-of .ensures) (c .enum-told .given .1)) record { answer = refl; bytes = refl }
+    let img = k .before .before .before .before .args .first .now in
+    rw (form-none img (size-none (sizeOf (length img - 64)) (k .form-size .ensures) (c .enum-told .given .1))) record { answer = refl; bytes = refl }
 
 returns-2 : tie.Need-returns-2
 unfolding mergeOf
 returns-2 c =
     let k = c .before .before in
-    let a = start (sized k) .args in
-    rw (first (sized k), size-none (sizeOf (length (a .second .now))) (k .size-of2 .ensures) (c .enum-told2 .given .1))
+    let img = start (sized k) .args .second .now in
+    rw (whole-sized (first (sized k)), form-none img (size-none (sizeOf (length img - 64)) (k .form-size2 .ensures) (c .enum-told2 .given .1)))
     record { answer = refl; bytes = refl }
 
 returns-3 : tie.Need-returns-3
@@ -59,9 +68,12 @@ unfolding mergeOf
 returns-3 c =
     let k = c .before .before in
     let o = others k in
-    let a = start (sized2 o) .args in
-    rw (first (sized2 o), second o, size-none (sizeOf (length (a .target .now))) (k .size-of3 .ensures) (c .enum-told3 .given .1))
-    record { answer = refl; bytes = refl }
+    let img = start (sized2 o) .args .target .now in
+    rw (
+      whole-sized (first (sized2 o)),
+      whole-sized (second o),
+      form-none img (size-none (sizeOf (length img - 64)) (k .form-size3 .ensures) (c .enum-told3 .given .1)),
+    ) record { answer = refl; bytes = refl }
 
 returns-4 : tie.Need-returns-4
 unfolding mergeOf
@@ -69,7 +81,12 @@ returns-4 c =
     let i = c .before .before in
     let o = sized3 i in
     let f = sized2 o in
-    rw (first f, second o, target i, ne-eqb (f .size .given .0 .0) (o .other .given .0 .0) (c .if1 .taken)) record { answer = refl; bytes = refl }
+    rw (
+      whole-sized (first f),
+      whole-sized (second o),
+      whole-sized (target i),
+      ne-eqb (f .size .given .0 .0) (o .other .given .0 .0) (c .if1 .taken),
+    ) record { answer = refl; bytes = refl }
 
 returns-5 : tie.Need-returns-5
 unfolding mergeOf
@@ -78,9 +95,9 @@ returns-5 c =
     let o = sized3 i in
     let f = sized2 o in
     rw (
-      first f,
-      second o,
-      target i,
+      whole-sized (first f),
+      whole-sized (second o),
+      whole-sized (target i),
       eq-eqb (f .size .given .0 .0) (o .other .given .0 .0) (c .before .if1 .left),
       ne-eqb (f .size .given .0 .0) (i .into .given .0 .0) (c .if2 .taken),
     ) record { answer = refl; bytes = refl }
@@ -90,11 +107,7 @@ merge-sized-requires c κs =
     let e = c .before in
     let i = compared e in
     let o = sized3 i in
-    let a = start (sized2 o) .args in (
-      whole-of (a .first .now) (first (sized2 o)),
-      whole-of (a .second .now) (second o ∙ ap some (sym (e .before .if1 .left))),
-      whole-of (a .target .now) (target i ∙ ap some (sym (e .if2 .left))),
-    )
+    (first (sized2 o), rw (e .before .if1 .left) (second o), rw (e .if2 .left) (target i))
 
 returns-6 : tie.Need-returns-6
 unfolding mergeOf
@@ -105,9 +118,9 @@ returns-6 c =
     let o = sized3 i in
     let f = sized2 o in
     rw (
-      first f,
-      second o,
-      target i,
+      whole-sized (first f),
+      whole-sized (second o),
+      whole-sized (target i),
       eq-eqb (f .size .given .0 .0) (o .other .given .0 .0) (e .before .if1 .left),
       eq-eqb (f .size .given .0 .0) (i .into .given .0 .0) (e .if2 .left),
     ) (m .merge-sized .ensures)

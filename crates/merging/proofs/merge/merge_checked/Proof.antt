@@ -1,73 +1,90 @@
--- `merging::merge::merge_checked` meets its contract. The target is fresh before the first front bucket, and where it was full on the way.
-use mathlib.Core.Path.{_≡_, _∙_}
+-- `merging::merge::merge_checked` meets its contract. The body takes all and the tail begins anew behind it, or the target is made fresh.
+use mathlib.Core.Path.{_≡_, refl, sym, _∙_}
+use Prim.Native.Nat.{_-_}
+use mathlib.Core.List.{_++_}
+use lib.ListN.{length, drop}
 use borrow.Author.Needs.{needs}
-use Rattle.crumbmap.specs.Layouts.{layout1, fronts}
-use Rattle.machine.specs.Images.{emptyImage}
-use Rattle.machine.specs.Merges.{mergeFrom}
-use Rattle.image.specs.Steps.ImageReads.{Whole}
-use Rattle.spill.specs.Steps.Settling.{reached}
-use Rattle.image.proofs.ImageReadLaws.{whole-alike}
-use Rattle.merging.proofs.MergeSteps.{fresh-whole, fill-accepted, fill-full}
+use Rattle.crumbmap.specs.Layouts.{layout1, known}
+use Rattle.form.specs.Tails.{body}
+use Rattle.form.proofs.TailLaws.{length-body, length-rest}
+use Rattle.tails.proofs.OpenLaws.{whole-long}
+use Rattle.tails.proofs.PartLaws.{end-written, end-lent, rest-part}
+use Rattle.merging.proofs.MergeSteps.{fresh-whole, still-whole, fill-accepted, fill-full}
 use Rattle.merging.proofs.merge.merge_checked.Statement.{statement}
 use Rattle.merging.proofs.merge.merge_checked.Tie as tie
 
--- the points of the walk: the start, the target fresh, the front buckets put in, not all of them
-abbrev start : tie.After-fresh → tie.Start
+-- the points of the walk: the start, the bodies merged, all put in or not
+abbrev start : tie.After-merge-bodies → tie.Start
 start c = c .before .before .before .before .before
 
-abbrev freshened : tie.After-merge-fronts-arg → tie.After-fresh
-freshened c = c .before .before .before .before .before
-
-abbrev lent : tie.After-merge-fronts → tie.After-merge-fronts-arg
-lent c = c .before
-
-abbrev put-in : tie.Else1 → tie.After-merge-fronts
+abbrev put-in : tie.Then1 → tie.After-merge-bodies
 put-in c = c .before .before .before
 
--- the target was made fresh
-emptied : (c : tie.After-fresh) → c .fresh .last .0 ≡ emptyImage layout1 (start c .args .size)
-emptied c = c .fresh .ensures .bytes ∙ fresh-whole layout1 (start c .pre .1)
+abbrev stuck : tie.Else1 → tie.After-merge-bodies
+stuck c = c .before .before .before
 
--- it took front buckets until it was full, and has the length that it had
-filled : (c : tie.After-merge-fronts) →
-    let a = start (freshened (lent c)) .args in
-    reached (c .merge-fronts .result) (c .merge-fronts .last .1 .1 .1 .1 .0)
-    ≡ mergeFrom layout1 (a .size) (fronts (a .size)) 0 (a .first .now) (a .second .now) (emptyImage layout1 (a .size))
-filled c = rw (emptied (freshened (lent c))) at (c .merge-fronts .ensures)
+-- the body is as long as it was
+long : (c : tie.After-merge-bodies) → length (c .merge-bodies .last .1 .1 .1 .0) ≡ length (start c .args .target .now) - 64
+unfolding body
+long c = c .merge-bodies .kept .1 .1 .1 .0 ∙ length-body (start c .args .target .now)
 
-still : (c : tie.After-merge-fronts) → Whole (start (freshened (lent c)) .args .size) (c .merge-fronts .last .1 .1 .1 .1 .0)
-still c =
-    let f = freshened (lent c) in
-    whole-alike (c .merge-fronts .kept .1 .1 .1 .1 .0 ∙ f .fresh .kept .0) (start f .pre .1)
+sub-end : tie.Need-sub-end
+sub-end c = let s = c .before .before .before in whole-long (s .args .target .now) (s .pre .1)
 
-merge-fronts-requires : tie.Need-merge-fronts-requires
-merge-fronts-requires c κs =
-    let f = freshened c in
-    (c .before .before .entries .ensures, start f .pre .0, emptied f)
+slice-aggregate-merge-bodies : tie.Need-slice-aggregate-merge-bodies
+unfolding body
+slice-aggregate-merge-bodies c = sym (length-body (c .before .before .before .before .args .target .now))
+
+merge-bodies-requires : tie.Need-merge-bodies-requires
+unfolding body
+merge-bodies-requires c κs = c .before .before .before .before .pre
+
+start-tail-requires : tie.Need-start-tail-requires
+start-tail-requires c κs =
+    let m = put-in (c .before) in
+    let old = start m .args .target .now in
+    let end = length old - 64 in
+    rw (end-lent end (m .merge-bodies .last .1 .1 .1 .0) (drop end old) (long m), rest-part old refl) (length-rest old (whole-long old (start m .pre .1)))
 
 returns : tie.Need-returns
-returns c = let d = c .before .before .before in fill-accepted layout1 (filled d) (c .if1 .taken)
-
-give-up-requires : tie.Need-give-up-requires
-give-up-requires c κs = still (put-in (c .before))
+returns c =
+    let t = c .before .before in
+    let i = t .before .before in
+    let m = put-in i in
+    let a = start m .args in
+    let old = a .target .now in
+    let now = m .merge-bodies .last .1 .1 .1 .0 in
+    let end = length old - 64 in
+    fill-accepted layout1 1 (a .size) (a .total) (a .first .now) (a .second .now) old (m .merge-bodies .result) now (m .merge-bodies .ensures) (i .if1 .taken)
+    (end-written end now (drop end old) (t .start-tail .last .0) (long m) ∙ rw (t .start-tail .ensures))
 
 returns-2 : tie.Need-returns-2
 returns-2 c =
-    let g = c .before .before in
-    let i = g .before .before in
-    let d = put-in i in
-    fill-full layout1 (filled d) (i .if1 .left) (start (freshened (lent d)) .pre .1) (still d) (g .give-up .ensures)
+    let f = c .before .before in
+    let i = f .before .before in
+    let m = stuck i in
+    let s = start m in
+    let a = s .args in
+    let old = a .target .now in
+    let now = m .merge-bodies .last .1 .1 .1 .0 in
+    let left = now ++ drop (length old - 64) old in
+    fill-full layout1 1 (a .size) (a .total) (a .first .now) (a .second .now) old (m .merge-bodies .result) now (m .merge-bodies .ensures) (i .if1 .left)
+    (f .fresh .ensures .bytes ∙ fresh-whole known 1 refl left (still-whole old now (s .pre .1) (long m)))
 
 pub merge-checked-spec : {M : Type 1} → statement M
 merge-checked-spec =
     tie.close
     (tie.spec
-    (λ c κs. search needs)
-    (λ c κs. search needs)
+    sub-end
     (λ c. search needs)
-    merge-fronts-requires
+    slice-aggregate-merge-bodies
+    merge-bodies-requires
+    (λ c. search needs)
+    (λ c. search needs)
+    (λ c. search needs)
+    start-tail-requires
     (λ c. search needs)
     returns
-    give-up-requires
+    (λ c κs. search needs)
     (λ c. search needs)
     returns-2)

@@ -1,61 +1,47 @@
--- `paging::page::page` meets its contract. A size or number 1; 6 past the end; else the page of an image of that size.
-use mathlib.Core.Path.{refl, _≡_}
-use mathlib.Core.Option.{some}
-use native.Mathlib.Omega.{arith}
+-- `paging::page::page` meets its contract: on an image that was opened it is the body's page.
+use mathlib.Core.Path.{refl}
 use lib.ListN.{length}
 use borrow.Author.Needs.{needs}
-use borrow.Author.Tests.{lt-ltb}
-use Rattle.crumbmap.specs.Layouts.{fronts}
-use Rattle.machine.specs.Images.{sizeOf}
-use Rattle.machine.specs.Pages.{pageFrom}
-use Rattle.machine.specs.Calls.{pageOf}
-use Rattle.image.proofs.ImageReadLaws.{size-some, size-none, whole-of}
+use Rattle.machine.specs.Calls as M
+use Rattle.form.specs.Tails.{body}
+use Rattle.form.specs.Calls.{pageOf}
+use Rattle.tails.specs.Steps.Openings.{Opens}
+use Rattle.tails.proofs.OpenLaws.{said-open, said-shut, shut}
+use Rattle.tails.proofs.CallLaws.{body-long, body-whole, body-call}
 use Rattle.paging.proofs.page.page.Statement.{statement}
 use Rattle.paging.proofs.page.page.Tie as tie
 
--- the points of the walk: the page is written; its bucket is not past the end; a size is found; the start
-abbrev wrote : tie.After-slice-known2 → tie.After-page-from
-wrote c = c .before .before
-
-abbrev within : tie.After-page-from → tie.Else1
-within c = c .before .before
-
-abbrev found : tie.After-known-told → tie.After-size-of
-found c = c .before .before .before
-
-abbrev start : tie.After-size-of → tie.Start
+-- the points of the walk: the start, the image opened
+abbrev start : tie.After-open-image → tie.Start
 start c = c .before .before .before
 
--- the size that was found
-sized : (c : tie.After-known-told) → sizeOf (length (start (found c) .args .image .now)) ≡ some (c .before .size .given .0 .0)
-sized c = size-some (sizeOf (length (start (found c) .args .image .now))) (found c .size-of .ensures) (c .before .size .given .1)
+abbrev opening : tie.After-known-told2 → tie.After-open-image
+opening c = c .before .before .before
+
+opens : (c : tie.After-known-told2) → Opens (c .before .opened .given .0 .0) (start (opening c) .args .image .now)
+opens c = said-open (start (opening c) .args .image .now) (opening c .open-image .ensures) (c .before .opened .given .1)
+
+slice-aggregate-page-sized : tie.Need-slice-aggregate-page-sized
+slice-aggregate-page-sized c = body-long (opens (c .before))
+
+page-sized-requires : tie.Need-page-sized-requires
+page-sized-requires c κs = body-whole (opens (c .before .before))
 
 returns : tie.Need-returns
 unfolding pageOf
 returns c =
-    let f = c .before .before in
-    rw (size-none (sizeOf (length (start f .args .image .now))) (f .size-of .ensures) (c .enum-told .given .1))
-    (record { answer = refl; bytes = refl })
-
-mul-if1 : tie.Need-mul-if1
-mul-if1 c = omega (arith, whole-of (start (found c) .args .image .now) (sized c) .small)
+    let o = c .before .before .before in
+    let a = start o .args in
+    rw (shut (a .image .now) (c .before .why .given .0 .0) (λ h. M.pageOf (h .layout) (body (a .image .now)) (a .start) (length (a .out .now)))
+    (said-shut (a .image .now) (o .open-image .ensures) (c .before .why .given .1))) (record { answer = refl; bytes = refl })
 
 returns-2 : tie.Need-returns-2
-unfolding pageOf pageFrom fronts
-returns-2 c =
-    let told = c .before in
-    rw (sized told, lt-ltb (fronts (told .before .size .given .0 .0)) (start (found told) .args .start) (c .if1 .taken))
-    (record { answer = refl; bytes = refl })
-
-page-from-requires : tie.Need-page-from-requires
-unfolding fronts
-page-from-requires c κs =
-    let told = c .before .before in
-    (whole-of (start (found told) .args .image .now) (sized told), omega arith)
-
-returns-3 : tie.Need-returns-3
 unfolding pageOf
-returns-3 c = rw (sized (within (wrote c) .before)) (wrote c .page-from .ensures)
+returns-2 c =
+    let p = c .before .before in
+    let k = p .before .before .before in
+    let a = start (opening k) .args in
+    rw (body-call (opens k) (λ L b. M.pageOf L b (a .start) (length (a .out .now)))) (p .page-sized .ensures)
 
 pub page-spec : {M : Type 1} → statement M
 page-spec =
@@ -64,9 +50,8 @@ page-spec =
     (λ c κs. search needs)
     (λ c. search needs)
     (λ c. search needs)
+    slice-aggregate-page-sized
+    page-sized-requires
     returns
-    mul-if1
-    returns-2
-    page-from-requires
     (λ c. search needs)
-    returns-3)
+    returns-2)

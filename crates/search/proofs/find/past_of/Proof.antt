@@ -42,7 +42,7 @@ past-le c =
     held-past layout1 (a .crumbs) (a .b .now) (membersOf layout1 (a .crumbs) (a .b .now)) (known (c .before .before)) (suc (a .mini))
 
 word-of-requires : tie.Need-word-of-requires
-word-of-requires c κs = let a = c .before .args in sound-long layout1 (a .crumbs) (a .b .now) (c .before .pre .sound)
+word-of-requires c κs = let a = c .before .args in omega (arith, sound-long layout1 (a .crumbs) (a .b .now) (c .before .pre .sound))
 
 rest-requires : tie.Need-rest-requires
 rest-requires c κs =

@@ -14,7 +14,7 @@ abbrev start : tie.After-select → tie.Start
 start c = c .before .before .before .before .before
 
 word-of-requires : tie.Need-word-of-requires
-word-of-requires c κs = c .before .before .pre .1 .long
+word-of-requires c κs = omega (arith, c .before .before .pre .1 .long)
 
 rank-in-requires : tie.Need-rank-in-requires
 rank-in-requires c κs =

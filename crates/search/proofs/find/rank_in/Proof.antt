@@ -59,7 +59,7 @@ scanned : {crumbs : Bool} {b : List ℕ} {from from′ past past′ low r : ℕ}
 scanned e h s = rw (e, h) at s
 
 word-of-requires : tie.Need-word-of-requires
-word-of-requires c κs = let s = start c in sound-long layout1 (s .args .crumbs) (s .args .b .now) (s .pre .0 .sound)
+word-of-requires c κs = let s = start c in omega (arith, sound-long layout1 (s .args .crumbs) (s .args .b .now) (s .pre .0 .sound))
 
 bounds-requires : tie.Need-bounds-requires
 bounds-requires c κs =

@@ -152,7 +152,7 @@ seek-front-spec =
     returns
     (λ c. first c .0)
     (λ c. omega (arith, first c .1))
-    (λ c κs. start (marked c) .pre .0 .long)
+    (λ c κs. omega (arith, start (marked c) .pre .0 .long))
     (λ c κs. omega (arith, start (marked (tagged c)) .pre .1, first (tagged c) .1))
     (λ c. omega (arith, first (tagged (word (tested c))) .0, first (tagged (word (tested c))) .1))
     copies-marked-requires

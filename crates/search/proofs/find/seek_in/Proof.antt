@@ -33,7 +33,7 @@ known c =
     held layout1 fits1 (a .crumbs) (a .b .now) (below-bytes (a .b .now) (c .shared-slice-known .given)) (c .before .pre .sound)
 
 word-of-requires : tie.Need-word-of-requires
-word-of-requires c κs = let s = c .before in sound-long layout1 (s .args .crumbs) (s .args .b .now) (s .pre .sound)
+word-of-requires c κs = let s = c .before in omega (arith, sound-long layout1 (s .args .crumbs) (s .args .b .now) (s .pre .sound))
 
 place-of-requires : tie.Need-place-of-requires
 place-of-requires c κs =

@@ -40,7 +40,7 @@ members-are l =
     l .before .occupancy .ensures .0 ∙ held-count1 b (backList layout1 b) (read .word-of .result) (read .word-of .ensures) true (known read)
 
 word-of-requires : tie.Need-word-of-requires Inv-loop μ-loop
-word-of-requires c κs = c .before .pre .0 .long
+word-of-requires c κs = omega (arith, c .before .pre .0 .long)
 
 occupancy-requires : tie.Need-occupancy-requires Inv-loop μ-loop
 occupancy-requires c κs =

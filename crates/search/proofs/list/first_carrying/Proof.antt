@@ -79,7 +79,7 @@ key-is c =
     ∙ key1 true b (backList layout1 b) (at .word-of .result) (l .loop .slot) (l .loop .zeros) (at .word-of .ensures) (known at) (turns t) (used t)
 
 word-of-requires : tie.Need-word-of-requires Inv-loop μ-loop
-word-of-requires c κs = c .before .pre .0 .long
+word-of-requires c κs = omega (arith, c .before .pre .0 .long)
 
 occupancy-requires : tie.Need-occupancy-requires Inv-loop μ-loop
 occupancy-requires c κs = many-is c

@@ -97,7 +97,7 @@ member-is c =
     (key-is (c .before)) (c .crumb-of .ensures .0)
 
 word-of-requires : tie.Need-word-of-requires Inv-loop μ-loop
-word-of-requires c κs = c .before .before .pre .0 .long
+word-of-requires c κs = omega (arith, c .before .before .pre .0 .long)
 
 occupancy-requires : tie.Need-occupancy-requires Inv-loop μ-loop
 occupancy-requires c κs = many-is c

@@ -119,7 +119,7 @@ room : (l : tie.At-loop Inv-loop μ-loop) → l .before .occupancy .result ≤ l
 room l = l .before .occupancy .ensures .1
 
 word-of-requires : tie.Need-word-of-requires Inv-loop μ-loop
-word-of-requires c κs = let s = c .before .before in sound-long layout1 (s .args .crumbs) (s .args .b .now) (s .pre .0)
+word-of-requires c κs = let s = c .before .before in omega (arith, sound-long layout1 (s .args .crumbs) (s .args .b .now) (s .pre .0))
 
 occupancy-requires : tie.Need-occupancy-requires Inv-loop μ-loop
 occupancy-requires c κs = many-is c

@@ -1,39 +1,50 @@
--- `validation::check::check` meets its contract. It is the machine's at the image's size, or the refusal of a length that no image has.
-use mathlib.Core.Path.{_≡_}
-use mathlib.Core.Option.{some}
-use lib.ListN.{length}
+-- `validation::check::check` meets its contract. The image is opened, and its body checked against the total that its tail tells.
 use borrow.Author.Needs.{needs}
-use Rattle.machine.specs.Images.{sizeOf}
-use Rattle.machine.specs.Calls.{checkOf}
-use Rattle.image.proofs.ImageReadLaws.{size-some, size-none, whole-of}
+use Rattle.form.specs.Calls.{checkedBy, checkOf}
+use Rattle.tails.specs.Steps.Openings.{Opens}
+use Rattle.tails.proofs.OpenLaws.{said-open, said-shut, opened-at}
+use Rattle.tails.proofs.PartLaws.{body-part}
+use Rattle.tails.proofs.CallLaws.{body-whole, body-long}
 use Rattle.validation.proofs.check.check.Statement.{statement}
 use Rattle.validation.proofs.check.check.Tie as tie
 
--- the points of the walk: a size is found; it is sought; the start
-abbrev found : tie.After-size → tie.After-size-of
-found c = c .before .before
+-- the points of the walk: the image is open; it is opened; the start
+abbrev tried : tie.After-opened → tie.After-open-image
+tried c = c .before .before
 
-abbrev start : tie.After-size-of → tie.Start
+abbrev start : tie.After-open-image → tie.Start
 start c = c .before .before
 
--- the size that was found
-sized : (c : tie.After-size) → sizeOf (length (start (found c) .args .image .now)) ≡ some (c .size .given .0 .0)
-sized c = size-some (sizeOf (length (start (found c) .args .image .now))) (found c .size-of .ensures) (c .size .given .1)
+opens : (c : tie.After-opened) → Opens (c .opened .given .0 .0) (start (tried c) .args .image .now)
+opens c = said-open (start (tried c) .args .image .now) (tried c .open-image .ensures) (c .opened .given .1)
+
+slice-aggregate-check-total : tie.Need-slice-aggregate-check-total
+slice-aggregate-check-total c = body-long (opens (c .before .before))
+
+check-total-requires : tie.Need-check-total-requires
+check-total-requires c κs = body-whole (opens (c .before .before))
 
 returns : tie.Need-returns
 unfolding checkOf
 returns c =
-    let f = c .before .before in
-    rw (size-none (sizeOf (length (start f .args .image .now))) (f .size-of .ensures) (c .enum-told .given .1))
-
-check-sized-requires : tie.Need-check-sized-requires
-check-sized-requires c κs = whole-of (start (found (c .before)) .args .image .now) (sized (c .before))
+    let o = c .before .before .before in
+    rw (said-shut (start o .args .image .now) (o .open-image .ensures) (c .before .why .given .1))
 
 returns-2 : tie.Need-returns-2
-unfolding checkOf
-returns-2 c = rw (sized (c .before .before)) (c .check-sized .ensures)
+unfolding checkOf checkedBy
+returns-2 c =
+    let o = c .before .before .before in
+    let img = start (tried o) .args .image .now in
+    rw (opened-at (opens o), ← body-part img (opens o .end)) (c .check-total .ensures)
 
 pub check-spec : {M : Type 1} → statement M
 check-spec =
     tie.close
-    (tie.spec (λ c κs. search needs) (λ c. search needs) (λ c. search needs) returns check-sized-requires returns-2)
+    (tie.spec
+    (λ c κs. search needs)
+    (λ c. search needs)
+    (λ c. search needs)
+    slice-aggregate-check-total
+    check-total-requires
+    returns
+    returns-2)

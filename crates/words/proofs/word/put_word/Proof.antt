@@ -7,6 +7,15 @@ use Rattle.multiset.specs.Digits.{digits}
 use Rattle.words.proofs.word.put_word.Statement.{statement}
 use Rattle.words.proofs.word.put_word.Tie as tie
 
+slice-write-b-2 : tie.Need-slice-write-b-2
+slice-write-b-2 c = simp length-set (omega arith)
+
+slice-write-b-3 : tie.Need-slice-write-b-3
+slice-write-b-3 c = simp length-set (omega arith)
+
+slice-write-b-4 : tie.Need-slice-write-b-4
+slice-write-b-4 c = simp length-set (omega arith)
+
 slice-write-b-5 : tie.Need-slice-write-b-5
 slice-write-b-5 c = simp length-set (omega arith)
 
@@ -30,11 +39,11 @@ put-word-spec =
     (λ c. search needs)
     (λ c. search needs)
     (λ c. search needs)
+    slice-write-b-2
     (λ c. search needs)
+    slice-write-b-3
     (λ c. search needs)
-    (λ c. search needs)
-    (λ c. search needs)
-    (λ c. search needs)
+    slice-write-b-4
     (λ c. search needs)
     slice-write-b-5
     (λ c. search needs)

@@ -1,0 +1,2 @@
+-- The steps of a merge.
+pub mod Steps

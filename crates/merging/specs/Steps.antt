@@ -1,0 +1,2 @@
+-- Inner steps of merge.
+pub mod Targets

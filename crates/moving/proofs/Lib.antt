@@ -1,0 +1,2 @@
+-- Laws of the moves.
+pub mod MoveSteps

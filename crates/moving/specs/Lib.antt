@@ -1,0 +1,2 @@
+-- The steps of the moves.
+pub mod Steps

@@ -1,0 +1,2 @@
+-- Inner steps of the moves.
+pub mod Moves

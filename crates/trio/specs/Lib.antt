@@ -1,0 +1,2 @@
+-- A row of three asks.
+pub mod Rows
