@@ -30,9 +30,9 @@ use Rattle.machine.proofs.BagLaws.{has-yes, has-no}
 use Rattle.machine.proofs.Members.{inBack-choice, frontList-swapped}
 use Rattle.machine.proofs.BucketWrites.{inBack-putFront}
 use Rattle.tails.specs.Steps.Openings.{Opens, headerOf}
-use Rattle.tails.specs.Steps.Changing.{within, adjusted}
+use Rattle.tails.specs.Steps.Changing.{within, tailWithin}
 use Rattle.tails.specs.declared.Opened.{Opened}
-use Rattle.tails.proofs.OpenLaws.{entered}
+use Rattle.tails.proofs.OpenLaws.{then-opened}
 use Rattle.tails.proofs.CallLaws.{hash-call}
 use Rattle.deletion.specs.Steps.Deletions.{DeletesAt, roomless, Stands, Leaves, without, refilled, Plans, LeavesFront, Refills, TakesOut}
 use Rattle.deletion.specs.declared.Departure.{Departure}
@@ -188,7 +188,7 @@ module _ {o : Opened} {img : List ℕ} (s : Opens o img) (k : ℕ) where
   pub delete-entered : deleteOf known img k ≡ changedBy (headerOf (o .size) (o .total) (o .changes)) (M.deleteOf layout1 (body img) k)
       (lowered layout1 (record { total = o .total; changes = o .changes }))
   unfolding deleteOf
-  delete-entered = entered (λ h. changedBy h (M.deleteOf (h .layout) (body img) k) (lowered (h .layout) (h .tail))) s
+  delete-entered = then-opened (λ h. changedBy h (M.deleteOf (h .layout) (body img) k) (lowered (h .layout) (h .tail))) s
 
   pub delete-opened : {t : Target} → Locates layout1 (o .size) k t
       → deleteOf known img k
@@ -199,7 +199,7 @@ module _ {o : Opened} {img : List ℕ} (s : Opens o img) (k : ℕ) where
 
 -- the room that the total has for one less
 pub lowered-room : (total changes : ℕ)
-    → lowered layout1 (record { total = total; changes = changes }) ≡ adjusted (ltb 0 total) (record { total = total - 1; changes = changes + 1 })
+    → lowered layout1 (record { total = total; changes = changes }) ≡ tailWithin (ltb 0 total) (record { total = total - 1; changes = changes + 1 })
 unfolding lowered
 lowered-room total changes = elim (ℕ-discrete total 0) [
   | yes e ↦ rw (eq-eqb total 0 e, le-ltb 0 total (omega arith))

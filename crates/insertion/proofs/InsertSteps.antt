@@ -34,9 +34,9 @@ use Rattle.image.specs.declared.Target.{Target}
 use Rattle.image.specs.declared.BackReading.{BackReading}
 use Rattle.image.proofs.ImageReadLaws.{both-accepts, both-read, largest-key}
 use Rattle.tails.specs.Steps.Openings.{Opens, headerOf}
-use Rattle.tails.specs.Steps.Changing.{within, adjusted}
+use Rattle.tails.specs.Steps.Changing.{within, tailWithin}
 use Rattle.tails.specs.declared.Opened.{Opened}
-use Rattle.tails.proofs.OpenLaws.{entered}
+use Rattle.tails.proofs.OpenLaws.{then-opened}
 use Rattle.tails.proofs.CallLaws.{hash-call}
 use Rattle.insertion.specs.Steps.Insertions.{InsertsAt, roomless, FullAt, overflowAt, spilled, Spills, Plans}
 use Rattle.insertion.specs.declared.Spilling.{Spilling}
@@ -175,7 +175,7 @@ module _ {o : Opened} {img : List ℕ} (s : Opens o img) (k : ℕ) where
   pub insert-entered : insertOf known img k ≡ changedBy (headerOf (o .size) (o .total) (o .changes)) (M.insertOf layout1 (body img) k)
       (raised layout1 (o .size) (record { total = o .total; changes = o .changes }))
   unfolding insertOf
-  insert-entered = entered (λ h. changedBy h (M.insertOf (h .layout) (body img) k) (raised (h .layout) (h .size) (h .tail))) s
+  insert-entered = then-opened (λ h. changedBy h (M.insertOf (h .layout) (body img) k) (raised (h .layout) (h .size) (h .tail))) s
 
   pub insert-opened : {t : Target} → Locates layout1 (o .size) k t
       → insertOf known img k
@@ -187,6 +187,6 @@ module _ {o : Opened} {img : List ℕ} (s : Opens o img) (k : ℕ) where
 -- the room that the total has for one more
 pub raised-room : (B total changes : ℕ) {most : ℕ} → most ≡ slots layout1 B
     → raised layout1 B (record { total = total; changes = changes })
-    ≡ adjusted (ltb total most) (record { total = total + 1; changes = changes + 1 })
+    ≡ tailWithin (ltb total most) (record { total = total + 1; changes = changes + 1 })
 unfolding raised
 raised-room B total changes e = rw e

@@ -15,7 +15,7 @@ use Rattle.image.specs.declared.Target.{Target}
 use Rattle.image.proofs.ImageReadLaws.{whole-sized, located, placed}
 use Rattle.tails.specs.Steps.Openings.{Opens}
 use Rattle.tails.specs.declared.Opened.{Opened}
-use Rattle.tails.proofs.OpenLaws.{entered}
+use Rattle.tails.proofs.OpenLaws.{then-opened}
 use Rattle.tails.proofs.PartLaws.{body-part}
 
 module _ {o : Opened} {img : List ℕ} (s : Opens o img) where
@@ -28,7 +28,7 @@ module _ {o : Opened} {img : List ℕ} (s : Opens o img) where
 
   -- a call that is `g` of the layout and the body, whatever the tail tells
   pub body-call : {A : Type 0} (g : Layout → List ℕ → Result A) → andThen (opened known img) (λ h. g (h .layout) (body img)) ≡ g layout1 (take (o .end) img)
-  body-call g = entered (λ h. g (h .layout) (body img)) s ∙ rw (body-part img (s .end))
+  body-call g = then-opened (λ h. g (h .layout) (body img)) s ∙ rw (body-part img (s .end))
 
   -- a call that is `g` at a size
   pub sized-call : {A : Type 0} (g : ℕ → List ℕ → Result A) → g (o .size) (take (o .end) img) ≡ andThen (sized (body img)) λ B. g B (body img)

@@ -26,7 +26,7 @@ use Rattle.answers.specs.declared.ChangeResult.{ChangeResult}
 use Rattle.answers.specs.declared.ChangeResult.the-variants as C
 use Rattle.answers.proofs.ChangeLaws.{changes, change-refused}
 use Rattle.tails.specs.Steps.Openings.{Opens, headerOf}
-use Rattle.tails.specs.Steps.Changing.{within, adjusted}
+use Rattle.tails.specs.Steps.Changing.{within, tailWithin}
 use Rattle.tails.specs.declared.Opened.{Opened}
 use Rattle.tails.proofs.PartLaws.{rest-part, end-written, end-lent}
 
@@ -55,7 +55,7 @@ same-refusal {n = n} {i = i} {p = p} {q = q} e = let a : n ≡ p = cc in let b :
 -- the change of the body and then of the tail, by the body's answer
 module _ (number : ℕ) (t : Tail) (b : List ℕ) where
   abbrev both : Bool → Result Change → Result Change
-  both room m = andThen m λ c. andThen (adjusted room t) λ v. accepted (record { answer = c .answer; image = c .image ++ tailBytes number v })
+  both room m = andThen m λ c. andThen (tailWithin room t) λ v. accepted (record { answer = c .answer; image = c .image ++ tailBytes number v })
 
   both-refused : (room : Bool) (m : Result Change) (n i : ℕ) → refused n i ≡ answerOf (within room m)
       → (both room m ≡ refused n i) × (imageOf (within room m) b ≡ b)
@@ -76,7 +76,7 @@ module _ (h : Header) (m : Result Change) (u : Result Tail) where
   unfolding changedBy
   change-spent e = rw (eq-eqb (h .tail .changes) top e)
 
-  module _ (left : h .tail .changes ≡ top → ⊥) (room : Bool) (t : Tail) (adjusts : u ≡ adjusted room t)
+  module _ (left : h .tail .changes ≡ top → ⊥) (room : Bool) (t : Tail) (adjusts : u ≡ tailWithin room t)
       {b now : List ℕ} {r : ChangeResult} (said : Changes (within room m) b r now) where
     -- a refusal is the call's, and the body is as it was
     pub body-refused : {why : Refusal} → r ≡ C.Refused why → (changedBy h m u ≡ refusal why) × (now ≡ b)
@@ -113,7 +113,7 @@ module _ {o : Opened} {img : List ℕ} (s : Opens o img) {call : Result Change} 
   pub opened-spent : o .changes ≡ top → Changes call img (C.Refused Spent) img
   opened-spent e = changes (is ∙ change-spent (headerOf (o .size) (o .total) (o .changes)) m u e) (change-refused Spent img)
 
-  module _ (left : o .changes ≡ top → ⊥) (room : Bool) (t : Tail) (adjusts : u ≡ adjusted room t)
+  module _ (left : o .changes ≡ top → ⊥) (room : Bool) (t : Tail) (adjusts : u ≡ tailWithin room t)
       {last : List ℕ} {r : ChangeResult} (said : Changes (within room m) (take (o .end) img) r last) where
     -- the body came back as it was
     pub opened-refused : {why : Refusal} → r ≡ C.Refused why → Changes call img (C.Refused why) (last ++ drop (o .end) img)

@@ -1,5 +1,5 @@
--- An image opened by its length and its tail. Main results: `tail-said`; `open-wrong`, `open-bad`, `open-good`; `opened-at`, what opening
--- an image is on the machine, and `shut`, where it is refused.
+-- An image opened by its length and its tail. Main results: `tail-said`, what the tail of an image says; `open-wrong`, `open-by`, opening by the
+-- length; `then-opened` and `then-shut`, what goes on with the header of an image.
 use mathlib.Core.Path.{_≡_, refl, _∙_}
 use Prim.Native.Nat.{ℕ, _-_, _≤_, _<_}
 use mathlib.Core.Bool.{Bool, true, false, _&&_}
@@ -21,7 +21,7 @@ use Rattle.answers.specs.declared.Refusal.{Refusal}
 use Rattle.answers.specs.declared.Tail as A
 use Rattle.image.specs.Steps.ImageReads.{Whole}
 use Rattle.image.proofs.ImageReadLaws.{whole-of, whole-sized}
-use Rattle.tails.specs.Steps.Openings.{readingOf, headerOf, TailSays, Opens, OpenSays}
+use Rattle.tails.specs.Steps.Openings.{tailReadingOf, headerOf, TailSays, Opens, OpenSays}
 use Rattle.tails.specs.declared.Opened.{Opened}
 use Rattle.tails.specs.declared.Opening.{Opening}
 use Rattle.tails.specs.declared.Opening.the-variants as O
@@ -66,14 +66,14 @@ module _ (B : ℕ) (img : List ℕ) where
 
   -- by the tests that the code makes
   said : (m z t : Bool) → eqb (markOf img) 1 ≡ m → allZero (drop 17 (rest img)) ≡ z → leb (tailIn (rest img) .total) (slots layout1 B) ≡ t
-      → {r : TailReading} → r ≡ readingOf (slots layout1 B) (rest img) → TailSays B img r
-  unfolding readingOf markOf
+      → {r : TailReading} → r ≡ tailReadingOf (slots layout1 B) (rest img) → TailSays B img r
+  unfolding tailReadingOf markOf
   said true true true p q s e = rw (e, p, q, s) (marked p q s)
   said true true false p q s e = rw (e, p, q, s) (spoilt p (rw (q, s)))
   said true false t p q s e = rw (e, p, q) (spoilt p (rw q))
   said false z t p q s e = rw (e, p) (unmarked p)
 
-  pub tail-said : {r : TailReading} → r ≡ readingOf (slots layout1 B) (rest img) → TailSays B img r
+  pub tail-said : {r : TailReading} → r ≡ tailReadingOf (slots layout1 B) (rest img) → TailSays B img r
   tail-said e = said (eqb (markOf img) 1) (allZero (drop 17 (rest img))) (leb (tailIn (rest img) .total) (slots layout1 B)) refl refl refl e
 
   module _ {r : TailReading} (says : TailSays B img r) where
@@ -107,9 +107,9 @@ pub opened-at : {o : Opened} {img : List ℕ} → Opens o img → opened known i
 opened-at {o} {img} s = open-by img (s .whole) ∙ s .header
 
 -- what goes on with the header is refused where opening is, and else goes on with this one
-pub shut : {A : Type 0} (img : List ℕ) (why : Refusal) (k : Header → Result A) → opened known img ≡ refusal why → andThen (opened known img) k ≡ refusal why
-shut img why k e = rw e
+pub then-shut : {A : Type 0} (img : List ℕ) (why : Refusal) (k : Header → Result A) → opened known img ≡ refusal why → andThen (opened known img) k ≡ refusal why
+then-shut img why k e = rw e
 
-pub entered : {A : Type 0} {o : Opened} {img : List ℕ} (k : Header → Result A) → Opens o img
+pub then-opened : {A : Type 0} {o : Opened} {img : List ℕ} (k : Header → Result A) → Opens o img
     → andThen (opened known img) k ≡ k (headerOf (o .size) (o .total) (o .changes))
-entered k s = rw (opened-at s)
+then-opened k s = rw (opened-at s)

@@ -13,7 +13,7 @@ use borrow.Author.Tests.{eq-eqb, ne-eqb, le-leb, lt-leb}
 use Rattle.multiset.specs.Multisets.{allZero}
 use Rattle.multiset.specs.Digits.{value}
 use Rattle.form.specs.Tails.{tailIn}
-use Rattle.tails.specs.Steps.Openings.{readingOf}
+use Rattle.tails.specs.Steps.Openings.{tailReadingOf}
 use Rattle.tails.specs.declared.TailReading.{TailReading}
 use Rattle.tails.specs.declared.TailReading.the-variants as R
 
@@ -55,23 +55,23 @@ module _ (most : ℕ) (b : List ℕ) where
   abbrev good : TailReading
   good = R.Good (record { total = tailIn b .total; changes = tailIn b .changes })
 
-  cased : (z t : Bool) → eqb (getD b 16 0) 1 && allZero (drop 17 b) ≡ z → leb (tailIn b .total) most ≡ t → cond (z && t) good R.Bad ≡ readingOf most b
-  unfolding readingOf
+  cased : (z t : Bool) → eqb (getD b 16 0) 1 && allZero (drop 17 b) ≡ z → leb (tailIn b .total) most ≡ t → cond (z && t) good R.Bad ≡ tailReadingOf most b
+  unfolding tailReadingOf
   cased z t p q = rw (p, q)
 
-  pub tail-over : most < tailIn b .total → R.Bad ≡ readingOf most b
+  pub tail-over : most < tailIn b .total → R.Bad ≡ tailReadingOf most b
   tail-over h = go (eqb (getD b 16 0) 1 && allZero (drop 17 b)) refl
     where
-      go : (z : Bool) → eqb (getD b 16 0) 1 && allZero (drop 17 b) ≡ z → R.Bad ≡ readingOf most b
+      go : (z : Bool) → eqb (getD b 16 0) 1 && allZero (drop 17 b) ≡ z → R.Bad ≡ tailReadingOf most b
       go true p = cased true false p (lt-leb (tailIn b .total) most h)
       go false p = cased false false p (lt-leb (tailIn b .total) most h)
 
   module _ (l : length b ≡ 64) where
-    pub tail-marked : (value 256 (take 8 (drop 16 b)) ≡ 1 → ⊥) → R.Bad ≡ readingOf most b
+    pub tail-marked : (value 256 (take 8 (drop 16 b)) ≡ 1 → ⊥) → R.Bad ≡ tailReadingOf most b
     tail-marked h = cased false (leb (tailIn b .total) most) (tail-tests b l ∙ rw (ne-eqb (value 256 (take 8 (drop 16 b))) 1 h)) refl
 
-    pub tail-spoilt : value 256 (take 8 (drop 16 b)) ≡ 1 → allZero (drop 24 b) ≡ false → R.Bad ≡ readingOf most b
+    pub tail-spoilt : value 256 (take 8 (drop 16 b)) ≡ 1 → allZero (drop 24 b) ≡ false → R.Bad ≡ tailReadingOf most b
     tail-spoilt h z = cased false (leb (tailIn b .total) most) (tail-tests b l ∙ rw (eq-eqb (value 256 (take 8 (drop 16 b))) 1 h, z)) refl
 
-    pub tail-fit : tailIn b .total ≤ most → value 256 (take 8 (drop 16 b)) ≡ 1 → allZero (drop 24 b) ≡ true → good ≡ readingOf most b
+    pub tail-fit : tailIn b .total ≤ most → value 256 (take 8 (drop 16 b)) ≡ 1 → allZero (drop 24 b) ≡ true → good ≡ tailReadingOf most b
     tail-fit m h z = cased true true (tail-tests b l ∙ rw (eq-eqb (value 256 (take 8 (drop 16 b))) 1 h, z)) (le-leb (tailIn b .total) most m)

@@ -15,7 +15,7 @@ ghost use Rattle.multiset.specs.Multisets.{allZero};
 ghost use Rattle.multiset.specs.Digits.{digits, value};
 ghost use Rattle.crumbmap.specs.Layouts.{layout1};
 ghost use Rattle.form.specs.Tails.{slots, started, tailBytes};
-ghost use Rattle.tails.specs.Steps.Openings.{readingOf};
+ghost use Rattle.tails.specs.Steps.Openings.{tailReadingOf};
 
 // "The top change count 2^64 − 1."
 pub const TOP: u64 = 18446744073709551615;
@@ -46,7 +46,7 @@ fn rest_zero(b: &[u8]) -> bool
 // A tail of an image that has `most` slots. Layout 1 in byte 16 and noughts behind it are the number 1 in bytes 16 to 23.
 pub fn read_tail(b: &[u8], most: u64) -> TailReading
     requires { ⌜ length (now b) ≡ 64 ⌝ }
-    ensures { λ r. ⌜ r ≡ readingOf most (now (b .entry)) ⌝ }
+    ensures { λ r. ⌜ r ≡ tailReadingOf most (now (b .entry)) ⌝ }
 {
     let total = word_at(b, 0);
     if most < total {

@@ -11,5 +11,5 @@ unfoldable pub within : Bool → Result Change → Result Change
 within room m = andThen m λ c. cond room (accepted c) (refused 12 0)
 
 -- the tail after it
-abbrev pub adjusted : Bool → Tail → Result Tail
-adjusted room t = cond room (accepted t) (refused 12 0)
+abbrev pub tailWithin : Bool → Tail → Result Tail
+tailWithin room t = cond room (accepted t) (refused 12 0)

@@ -18,8 +18,8 @@ use Rattle.tails.specs.declared.TailReading.{TailReading}
 use Rattle.tails.specs.declared.TailReading.the-variants as R
 
 -- a tail as the code reads it: layout 1 in byte 16, noughts behind it, and at most so many members
-unfoldable pub readingOf : ℕ → List ℕ → TailReading
-readingOf most b =
+unfoldable pub tailReadingOf : ℕ → List ℕ → TailReading
+tailReadingOf most b =
     cond (eqb (getD b 16 0) 1 && allZero (drop 17 b) && leb (tailIn b .total) most)
     (R.Good (record { total = tailIn b .total; changes = tailIn b .changes })) R.Bad
 

@@ -4,7 +4,7 @@ use Rattle.machine.specs.Calls as M
 use Rattle.form.specs.Tails.{body, lowered}
 use Rattle.form.specs.Calls.{changedBy, deleteOf}
 use Rattle.answers.proofs.ChangeLaws.{changes, change-refused}
-use Rattle.tails.proofs.OpenLaws.{said-open, said-shut, shut}
+use Rattle.tails.proofs.OpenLaws.{said-open, said-shut, then-shut}
 use Rattle.deletion.proofs.delete.delete.Statement.{statement}
 use Rattle.deletion.proofs.delete.delete.Tie as tie
 
@@ -26,7 +26,7 @@ returns c =
     let o = c .before .before .before in
     let a = start o .args in
     changes
-    (shut (a .image .now) (c .before .why .given .0 .0)
+    (then-shut (a .image .now) (c .before .why .given .0 .0)
     (λ h. changedBy h (M.deleteOf (h .layout) (body (a .image .now)) (a .hash)) (lowered (h .layout) (h .tail)))
     (said-shut (a .image .now) (o .open-image .ensures) (c .before .why .given .1)))
     (change-refused (c .before .why .given .0 .0) (a .image .now))

@@ -13,7 +13,7 @@ use Rattle.machine.specs.Calls as M
 use Rattle.form.specs.Tails as F
 use Rattle.form.specs.Tails.{Tail, lowered}
 use Rattle.image.specs.declared.Target.{Target}
-use Rattle.tails.specs.Steps.Changing.{adjusted}
+use Rattle.tails.specs.Steps.Changing.{tailWithin}
 use Rattle.tails.proofs.CallLaws.{body-long, body-placed}
 use Rattle.tails.proofs.ChangeLaws.{had-room, opened-spent, opened-refused, opened-accepted}
 use Rattle.deletion.proofs.DeleteSteps.{delete-entered, delete-opened, lowered-room}
@@ -42,7 +42,7 @@ module _ (s : tie.Start) where
   adjusts = lowered layout1 (record { total = s .args .opened .total; changes = s .args .opened .changes })
 
 -- the room that the code found is that of the total
-roomed : (s : tie.Start) → adjusts s ≡ adjusted (ltb 0 (s .args .opened .total)) (tail s)
+roomed : (s : tie.Start) → adjusts s ≡ tailWithin (ltb 0 (s .args .opened .total)) (tail s)
 roomed s = lowered-room (s .args .opened .total) (s .args .opened .changes)
 
 returns : tie.Need-returns

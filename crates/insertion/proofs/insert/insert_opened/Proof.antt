@@ -12,7 +12,7 @@ use Rattle.machine.specs.Calls as M
 use Rattle.form.specs.Tails as F
 use Rattle.form.specs.Tails.{Tail, raised}
 use Rattle.image.specs.declared.Target.{Target}
-use Rattle.tails.specs.Steps.Changing.{adjusted}
+use Rattle.tails.specs.Steps.Changing.{tailWithin}
 use Rattle.tails.proofs.CallLaws.{body-long, body-placed}
 use Rattle.tails.proofs.ChangeLaws.{total-low, opened-spent, opened-refused, opened-accepted}
 use Rattle.insertion.proofs.InsertSteps.{insert-entered, insert-opened, raised-room}
@@ -43,7 +43,7 @@ module _ (s : tie.Start) where
 -- the room that the code found is that of the total
 roomed : (c : tie.After-insert-at-arg) →
     let s = start (below c) in
-    adjusts s ≡ adjusted (ltb (s .args .opened .total) (c .before .before .slots-of .result)) (tail s)
+    adjusts s ≡ tailWithin (ltb (s .args .opened .total) (c .before .before .slots-of .result)) (tail s)
 roomed c = let o = start (below c) .args .opened in raised-room (o .size) (o .total) (o .changes) (c .before .before .slots-of .ensures)
 
 returns : tie.Need-returns

@@ -7,7 +7,7 @@ use Rattle.machine.specs.Calls as M
 use Rattle.form.specs.Tails.{body}
 use Rattle.form.specs.Calls.{countOf}
 use Rattle.tails.specs.Steps.Openings.{Opens}
-use Rattle.tails.proofs.OpenLaws.{said-open, said-shut, shut, entered}
+use Rattle.tails.proofs.OpenLaws.{said-open, said-shut, then-shut, then-opened}
 use Rattle.tails.proofs.CallLaws.{body-long, body-placed, hash-call}
 use Rattle.lookup.proofs.count.count.Statement.{statement}
 use Rattle.lookup.proofs.count.count.Tie as tie
@@ -36,7 +36,7 @@ unfolding countOf
 returns c =
     let o = c .before .before .before in
     let a = start o .args in
-    sym (shut (a .image .now) (c .before .why .given .0 .0) (λ h. M.countOf (h .layout) (body (a .image .now)) (a .hash))
+    sym (then-shut (a .image .now) (c .before .why .given .0 .0) (λ h. M.countOf (h .layout) (body (a .image .now)) (a .hash))
     (said-shut (a .image .now) (o .open-image .ensures) (c .before .why .given .1)))
 
 returns-2 : tie.Need-returns-2
@@ -47,7 +47,7 @@ returns-2 c =
     let a = start (opening k) .args in
     c .count-at .ensures
     ∙ hash-call (opens k) (t .target-of .ensures) (λ B f x b. countAt layout1 B f x b)
-    ∙ sym (entered (λ h. M.countOf (h .layout) (body (a .image .now)) (a .hash)) (opens k))
+    ∙ sym (then-opened (λ h. M.countOf (h .layout) (body (a .image .now)) (a .hash)) (opens k))
 
 pub count-spec : {M : Type 1} → statement M
 count-spec =

@@ -6,7 +6,7 @@ use Rattle.machine.specs.Calls as M
 use Rattle.form.specs.Tails.{body}
 use Rattle.form.specs.Calls.{pageOf}
 use Rattle.tails.specs.Steps.Openings.{Opens}
-use Rattle.tails.proofs.OpenLaws.{said-open, said-shut, shut}
+use Rattle.tails.proofs.OpenLaws.{said-open, said-shut, then-shut}
 use Rattle.tails.proofs.CallLaws.{body-long, body-whole, body-call}
 use Rattle.paging.proofs.page.page.Statement.{statement}
 use Rattle.paging.proofs.page.page.Tie as tie
@@ -32,7 +32,7 @@ unfolding pageOf
 returns c =
     let o = c .before .before .before in
     let a = start o .args in
-    rw (shut (a .image .now) (c .before .why .given .0 .0) (λ h. M.pageOf (h .layout) (body (a .image .now)) (a .start) (length (a .out .now)))
+    rw (then-shut (a .image .now) (c .before .why .given .0 .0) (λ h. M.pageOf (h .layout) (body (a .image .now)) (a .start) (length (a .out .now)))
     (said-shut (a .image .now) (o .open-image .ensures) (c .before .why .given .1))) (record { answer = refl; bytes = refl })
 
 returns-2 : tie.Need-returns-2

@@ -50,25 +50,25 @@ unfolding body lengthOf
 clear-all-requires c κs = omega (arith, sized (c .before) .long)
 
 -- the size was known before the body was cleared, which is as long as it was
-abbrev known : tie.After-clear-all → tie.After-known-told
-known c = c .before .before
+abbrev measured : tie.After-clear-all → tie.After-known-told
+measured c = c .before .before
 
-long : (c : tie.After-clear-all) → length (c .clear-all .last .0) ≡ length (known c .before .before .before .before .before .args .image .now) - 64
+long : (c : tie.After-clear-all) → length (c .clear-all .last .0) ≡ length (measured c .before .before .before .before .before .args .image .now) - 64
 unfolding body
-long c = omega (arith, c .clear-all .kept, length-body (known c .before .before .before .before .before .args .image .now))
+long c = omega (arith, c .clear-all .kept, length-body (measured c .before .before .before .before .before .args .image .now))
 
 start-tail-requires : tie.Need-start-tail-requires
 start-tail-requires c κs =
     let w = c .before .before .before in
-    let img = known w .before .before .before .before .before .args .image .now in
-    rw (end-lent (length img - 64) (w .clear-all .last .0) (drop (length img - 64) img) (long w), rest-part img refl) (length-rest img (whole-long img (sized (known w))))
+    let img = measured w .before .before .before .before .before .args .image .now in
+    rw (end-lent (length img - 64) (w .clear-all .last .0) (drop (length img - 64) img) (long w), rest-part img refl) (length-rest img (whole-long img (sized (measured w))))
 
 returns-2 : tie.Need-returns-2
 unfolding freshOf
 returns-2 c =
     let t = c .before .before in
     let w = t .before .before .before .before in
-    let k = known w in
+    let k = measured w in
     let img = k .before .before .before .before .before .args .image .now in
     let e = whole-sized (sized k) in
     record {

@@ -31,23 +31,23 @@ tail-at-requires c κs = sized c
 abbrev read : tie.After-known-told2 → tie.After-tail-at
 read c = c .before .before .before
 
-abbrev known : tie.After-tail-at → tie.After-known-told
-known c = c .before
+abbrev measured : tie.After-tail-at → tie.After-known-told
+measured c = c .before
 
 sub-t11 : tie.Need-sub-t11
-sub-t11 c = let k = known (read c) in whole-long (k .before .before .before .before .before .args .image .now) (sized k)
+sub-t11 c = let k = measured (read c) in whole-long (k .before .before .before .before .before .args .image .now) (sized k)
 
 returns-2 : tie.Need-returns-2
 returns-2 c =
     let r = c .before .before in
-    let k = known r in
+    let k = measured r in
     let img = k .before .before .before .before .before .args .image .now in
     open-by img (sized k) ∙ tail-bad (k .before .size .given .0 .0) img (r .tail-at .ensures) (c .enum-told2 .given .1)
 
 returns-3 : tie.Need-returns-3
 returns-3 c =
     let r = read c in
-    let k = known r in
+    let k = measured r in
     let img = k .before .before .before .before .before .args .image .now in
     record {
       long = whole-long img (sized k);

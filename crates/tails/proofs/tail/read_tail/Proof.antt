@@ -1,4 +1,4 @@
--- `tails::tail::read_tail` meets its contract: its tests, in their order, are those of `readingOf`.
+-- `tails::tail::read_tail` meets its contract: its tests, in their order, are those of `tailReadingOf`.
 use mathlib.Core.Path.{_∙_, sym}
 use native.Mathlib.Omega.{arith}
 use borrow.Author.Needs.{needs}
