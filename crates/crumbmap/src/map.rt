@@ -59,17 +59,17 @@ pub fn stride_of(size: usize) -> usize
     size / 8 + 1
 }
 
-// The way back from a backyard bucket and a crumb, "8 × choice + digit", by the ways back of either choice.
-pub fn home_of(size: usize, from: Backyard, first: Homes, second: Homes, crumb: u32) -> Home
-    requires { ⌜ (size ≤ 65536) × (crumb < 16) × LeadsBack (firstHome size (from .0)) first × LeadsBack (secondHome size (from .0)) second ⌝ }
+// The way back from a backyard bucket and a crumb, "8 × choice + digit".
+pub fn home_of(size: usize, from: Backyard, crumb: u32) -> Home
+    requires { ⌜ (size ≤ 65536) × (from .0 < backyards size) × (crumb < 16) ⌝ }
     ensures { λ r. ⌜ r ≡ homeOf (home size (from .0) crumb) ⌝ }
 {
     let choice = crumb / 8;
     let digit = crumb % 8;
     if choice == 0 {
-        return home_at(first, digit as usize);
+        return home_at(first_homes(size, from), digit as usize);
     }
-    home_at(second, digit as usize)
+    home_at(second_homes(size, from), digit as usize)
 }
 
 // The front bucket that a digit leads to.

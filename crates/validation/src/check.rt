@@ -9,12 +9,9 @@ use answers::Refusal;
 use crumbmap::Backyard;
 use crumbmap::Front;
 use crumbmap::Home;
-use crumbmap::Homes;
 use crumbmap::layout::BACK_SLOTS;
 use crumbmap::layout::FRONT_SLOTS;
-use crumbmap::map::first_homes;
 use crumbmap::map::home_of;
-use crumbmap::map::second_homes;
 use image::back::read_back_at;
 use image::front::read_front_at;
 use image::place::back_bucket;
@@ -30,8 +27,7 @@ use tails::open::open_image;
 ghost use mathlib.Core.Path.{_≡_};
 ghost use Prim.Native.Nat.{_/_, _%_, _<_};
 ghost use Rattle.crumbmap.specs.Layouts.{layout1, known, backyards};
-ghost use Rattle.crumbmap.specs.CrumbMap.{firstHome, secondHome, home};
-ghost use Rattle.crumbmap.specs.Steps.Places.{LeadsBack};
+ghost use Rattle.crumbmap.specs.CrumbMap.{home};
 ghost use Rattle.machine.specs.Images.{inBack};
 ghost use Rattle.machine.specs.Checks.{homeInTurn, allInTurn, early};
 ghost use Rattle.form.specs.Calls.{checkedBy, checkOf};
@@ -168,11 +164,9 @@ fn all_in_turn(image: &[u8], size: usize, bucket: Backyard, members: &[u32]) -> 
     requires { ⌜ AllRead layout1 size (now image) × (bucket .0 < backyards size) ⌝ }
     ensures { λ r. ⌜ r ≡ allInTurn layout1 size (bucket .0) (now (image .entry)) (now (members .entry)) ⌝ }
 {
-    let first = first_homes(size, bucket);
-    let second = second_homes(size, bucket);
     let mut slot = 0;
     while slot < members.len() {
-        if !member_in_turn(image, size, bucket, first, second, members[slot]) {
+        if !member_in_turn(image, size, bucket, members[slot]) {
             return false;
         }
         slot += 1;
@@ -181,18 +175,11 @@ fn all_in_turn(image: &[u8], size: usize, bucket: Backyard, members: &[u32]) -> 
 }
 
 // The front bucket of a backyard bucket's member holds 28, none larger than that member.
-fn member_in_turn(
-    image: &[u8],
-    size: usize,
-    bucket: Backyard,
-    first: Homes,
-    second: Homes,
-    member: u32,
-) -> bool
-    requires { ⌜ AllRead layout1 size (now image) × LeadsBack (firstHome size (bucket .0)) first × LeadsBack (secondHome size (bucket .0)) second ⌝ }
+fn member_in_turn(image: &[u8], size: usize, bucket: Backyard, member: u32) -> bool
+    requires { ⌜ AllRead layout1 size (now image) × (bucket .0 < backyards size) ⌝ }
     ensures { λ r. ⌜ r ≡ homeInTurn layout1 (home size (bucket .0) (member % 16)) (member / 16) (now (image .entry)) ⌝ }
 {
-    let Home::At(front) = home_of(size, bucket, first, second, member % 16) else {
+    let Home::At(front) = home_of(size, bucket, member % 16) else {
         return false;
     };
     let mine = bucket_of(image, front.0);

@@ -1,47 +1,35 @@
 -- `validation::check::all_in_turn` meets its contract. The loop's invariant: all members are in turn where those from the slot on are.
 -- The measure is what is left of them.
 use mathlib.Core.Path.{refl, _≡_}
-use Prim.Native.Nat.{_-_, _≤_, _<_}
+use Prim.Native.Nat.{_-_, _≤_}
 use native.Mathlib.Omega.{arith}
 use lib.ListN.{length, drop}
 use borrow.Author.Needs.{needs}
-use Rattle.crumbmap.specs.Layouts.{layout1, backyards}
+use Rattle.crumbmap.specs.Layouts.{layout1}
 use Rattle.machine.specs.Checks.{allInTurn}
 use Rattle.validation.proofs.CheckSteps.{members-on, members-stop, members-end}
 use Rattle.validation.proofs.check.all_in_turn.Statement.{statement}
 use Rattle.validation.proofs.check.all_in_turn.Tie as tie
 
 abbrev Inv-loop : tie.InvT-loop
-Inv-loop image size bucket members first second slot₀ slot =
+Inv-loop image size bucket members slot₀ slot =
     (slot ≤ length members) × (allInTurn layout1 size (bucket .0) image members ≡ allInTurn layout1 size (bucket .0) image (drop slot members))
 
 abbrev μ-loop : tie.MeasureT-loop
-μ-loop image size bucket members first second slot₀ slot = length members - slot
+μ-loop image size bucket members slot₀ slot = length members - slot
 
--- the points of the walk: the member is told in turn, or not; its turn; the ways back are known; the start
+-- the points of the walk: the member is told in turn, or not; its turn; the start
 abbrev turn : tie.After-member-in-turn Inv-loop μ-loop → tie.In-loop Inv-loop μ-loop
 turn c = c .before .before
 
-abbrev ways : tie.In-loop Inv-loop μ-loop → tie.After-second-homes Inv-loop μ-loop
-ways c = c .before .before
-
 abbrev start : tie.In-loop Inv-loop μ-loop → tie.Start Inv-loop μ-loop
-start c = ways c .before .before .before .before
-
-homes-requires : (s : tie.Start Inv-loop μ-loop) → (s .args .size ≤ 65536) × (s .args .bucket .0 < backyards (s .args .size))
-homes-requires s = (s .pre .0 .whole .small, s .pre .1)
-
-first-homes-requires : tie.Need-first-homes-requires Inv-loop μ-loop
-first-homes-requires c κs = homes-requires (c .before .before)
-
-second-homes-requires : tie.Need-second-homes-requires Inv-loop μ-loop
-second-homes-requires c κs = homes-requires (c .before .before .before)
+start c = c .before .before .before .before
 
 loop-holds : tie.Need-loop-holds Inv-loop μ-loop
 loop-holds c = (omega arith, refl)
 
 member-in-turn-requires : tie.Need-member-in-turn-requires Inv-loop μ-loop
-member-in-turn-requires c κs = let w = ways (c .before) in (start (c .before) .pre .0, w .before .first-homes .ensures, w .second-homes .ensures)
+member-in-turn-requires c κs = start (c .before) .pre
 
 returns : tie.Need-returns Inv-loop μ-loop
 returns c =
@@ -63,7 +51,7 @@ loop-again c =
 
 returns-2 : tie.Need-returns-2 Inv-loop μ-loop
 returns-2 c =
-    let a = c .before .before .before .before .before .before .args in
+    let a = c .before .before .before .before .args in
     members-end layout1 (a .size) (a .bucket .0) (a .image .now) (a .members .now) (c .before .loop .slot) (c .before .loop .inv .1) (omega arith)
 
 pub all-in-turn-spec : {M : Type 1} → statement M
@@ -72,8 +60,6 @@ all-in-turn-spec =
     (tie.spec
     Inv-loop
     μ-loop
-    first-homes-requires
-    second-homes-requires
     loop-holds
     (λ c. search needs)
     (λ c. omega arith)
