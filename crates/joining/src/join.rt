@@ -15,15 +15,15 @@ use spill::push::push_all;
 ghost use mathlib.Core.Path.{_≡_};
 ghost use Prim.Native.Nat.{_<_};
 ghost use lib.ListN.{length};
-ghost use Rattle.crumbmap.specs.Layouts.{layout1};
+ghost use Rattle.crumbmap.specs.Layouts.{layout1, mostMembers};
 ghost use Rattle.words.specs.Select.{selectTable};
 ghost use Rattle.machine.specs.Images.{inFront};
 ghost use Rattle.machine.specs.Steps.Spills.{pushAll};
 ghost use Rattle.listing.specs.Steps.Listings.{behindIn, BackyardRead};
 ghost use Rattle.spill.specs.Steps.Settling.{reached};
-ghost use Rattle.joining.specs.Steps.Joins.{Checked, Merging, Joining, joined, bothInserted};
+ghost use Rattle.joining.specs.Steps.Joins.{Checked, Merging, Joining, Scratch, joined, bothInserted};
 
-// One front bucket of both into a target whose own is empty.
+// One front bucket of both into a target whose own is empty. Three lists are lent to work in.
 pub fn merge_front<'a>(
     table: &[u8],
     first: &'a [u8],
@@ -31,8 +31,11 @@ pub fn merge_front<'a>(
     size: usize,
     front: Front,
     target: &mut [u8],
+    a: &mut [u32],
+    b: &mut [u32],
+    over: &mut [u32],
 ) -> bool
-    requires { ⌜ (now table ≡ selectTable) × Merging layout1 size (front .0) (now first) (now second) (now target) ⌝ }
+    requires { ⌜ (now table ≡ selectTable) × Merging layout1 size (front .0) (now first) (now second) (now target) × Scratch layout1 (now a) (now b) (now over) ⌝ }
     ensures { λ r. ⌜ reached r (now (target .exit))
         ≡ bothInserted layout1 size (front .0) (now (first .entry)) (now (second .entry)) (now (target .entry)) ⌝ }
 {
@@ -42,7 +45,7 @@ pub fn merge_front<'a>(
     if count_front(bucket(second, front.0)) == 0 {
         return take_over(table, first, second, size, front, target);
     }
-    merge_both(table, first, second, size, front, target)
+    merge_both(table, first, second, size, front, target, a, b, over)
 }
 
 // The same where at most one of the two front buckets has members: its bytes serve.
@@ -81,7 +84,7 @@ fn add_behind(table: &[u8], source: &[u8], size: usize, front: Front, target: &m
     push_all(table, &keys[FRONT_SLOTS..n], size, front, target)
 }
 
-// The same where both have members: the two lists of them are put in.
+// The same where both have members: the two lists of them, made in `a` and `b`, are put in.
 fn merge_both<'a>(
     table: &[u8],
     first: &'a [u8],
@@ -89,26 +92,34 @@ fn merge_both<'a>(
     size: usize,
     front: Front,
     target: &mut [u8],
+    a: &mut [u32],
+    b: &mut [u32],
+    over: &mut [u32],
 ) -> bool
-    requires { ⌜ (now table ≡ selectTable) × Merging layout1 size (front .0) (now first) (now second) (now target) ⌝ }
+    requires { ⌜ (now table ≡ selectTable) × Merging layout1 size (front .0) (now first) (now second) (now target) × Scratch layout1 (now a) (now b) (now over) ⌝ }
     ensures { λ r. ⌜ reached r (now (target .exit))
         ≡ bothInserted layout1 size (front .0) (now (first .entry)) (now (second .entry)) (now (target .entry)) ⌝ }
 {
-    let mut a = [0u32; MOST_MEMBERS];
-    let mut b = [0u32; MOST_MEMBERS];
-    let n = list_members(first, size, front, &mut a);
-    let m = list_members(second, size, front, &mut b);
-    join(table, &a[..n], &b[..m], size, front, target)
+    let n = list_members(first, size, front, a);
+    let m = list_members(second, size, front, b);
+    join(table, &a[..n], &b[..m], size, front, target, over)
 }
 
-// Two ascending lists of keys into a front bucket that is empty: what stays is written, then what leaves goes behind it.
-fn join(table: &[u8], a: &[u32], b: &[u32], size: usize, front: Front, target: &mut [u8]) -> bool
-    requires { ⌜ (now table ≡ selectTable) × Joining layout1 size (front .0) (now a) (now b) (now target) ⌝ }
+// Two ascending lists of keys into a front bucket that is empty: what stays is written, then what leaves goes behind it, by way of `over`.
+fn join(
+    table: &[u8],
+    a: &[u32],
+    b: &[u32],
+    size: usize,
+    front: Front,
+    target: &mut [u8],
+    over: &mut [u32],
+) -> bool
+    requires { ⌜ (now table ≡ selectTable) × Joining layout1 size (front .0) (now a) (now b) (now target) × (length (now over) ≡ mostMembers layout1) ⌝ }
     ensures { λ r. ⌜ reached r (now (target .exit)) ≡ joined layout1 size (front .0) (now (a .entry)) (now (b .entry)) (now (target .entry)) ⌝ }
 {
-    let mut over = [0u32; MOST_MEMBERS];
     let own = in_front(a.len());
-    let gone = fill_both(&a[..own], b, front, &mut over, target);
+    let gone = fill_both(&a[..own], b, front, over, target);
     if push_all(table, &a[own..], size, front, target) {
         return push_all(table, &over[..gone], size, front, target);
     }

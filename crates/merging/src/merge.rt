@@ -1,9 +1,10 @@
 // Merge: "the target becomes fresh, then for f = 0 up inserts the first's members of f ascending, then the second's", and the tail tells the
-// members of both. The select table is copied once a call, and lent.
+// members of both. The select table and the lists to work in are made once a call, and lent.
 
 use answers::Outcome;
 use answers::Refusal;
 use crumbmap::Front;
+use crumbmap::layout::MOST_MEMBERS;
 use image::Size;
 use image::fresh::clear_all;
 use joining::join::merge_front;
@@ -25,7 +26,7 @@ ghost use Rattle.answers.specs.Answers.{Leaves, Merges};
 ghost use Rattle.image.specs.Steps.ImageReads.{Whole};
 ghost use Rattle.tails.specs.Steps.Openings.{headerOf};
 ghost use Rattle.spill.specs.Steps.Settling.{reached};
-ghost use Rattle.joining.specs.Steps.Joins.{Sources};
+ghost use Rattle.joining.specs.Steps.Joins.{Sources, Scratch};
 ghost use Rattle.merging.specs.Steps.Targets.{Told, MergesInto, bothMerged};
 
 // The members of two images into a third.
@@ -125,7 +126,19 @@ fn merge_bodies<'a>(first: &'a [u8], second: &'a [u8], size: usize, target: &mut
 {
     clear_all(target, 9 * size + 7);
     let table = entries();
-    merge_fronts(&table, first, second, size, target)
+    let mut a = [0u32; MOST_MEMBERS];
+    let mut b = [0u32; MOST_MEMBERS];
+    let mut over = [0u32; MOST_MEMBERS];
+    merge_fronts(
+        &table,
+        first,
+        second,
+        size,
+        target,
+        &mut a,
+        &mut b,
+        &mut over,
+    )
 }
 
 // All front buckets into a fresh target, until it is full.
@@ -135,15 +148,19 @@ fn merge_fronts<'a>(
     second: &'a [u8],
     size: usize,
     target: &mut [u8],
+    a: &mut [u32],
+    b: &mut [u32],
+    over: &mut [u32],
 ) -> bool
-    requires { ⌜ (now table ≡ selectTable) × Sources layout1 size (now first) (now second) × (now target ≡ emptyImage layout1 size) ⌝ }
+    requires { ⌜ (now table ≡ selectTable) × Sources layout1 size (now first) (now second) × (now target ≡ emptyImage layout1 size)
+        × Scratch layout1 (now a) (now b) (now over) ⌝ }
     ensures { λ r. ⌜ reached r (now (target .exit))
         ≡ mergeFrom layout1 size (fronts size) 0 (now (first .entry)) (now (second .entry)) (now (target .entry)) ⌝ }
 {
     let end = 8 * size;
     let mut f = 0;
     while f < end {
-        if !merge_front(table, first, second, size, Front(f), target) {
+        if !merge_front(table, first, second, size, Front(f), target, a, b, over) {
             return false;
         }
         f += 1;

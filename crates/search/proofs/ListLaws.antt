@@ -1,7 +1,7 @@
 -- The members of a sound bucket one by one, at any layout: the zeros of its word in turn, and its keys, all of them and those that carry a crumb.
--- Main results: `turn`, `listed-yes`, `listed-no`, `carrying-first`, `member-stored`. The last section is of layout 1.
+-- Main results: `turn`, `listed-yes`, `listed-no`, `carrying-first`, `without-gaps`. The last section is of layout 1.
 use mathlib.Core.Path.{_≡_, refl, sym, ap, _∙_}
-use Prim.Native.Nat.{ℕ, zero, suc, _+_, _*_, _/_, _%_, _-_, _^_, _<_}
+use Prim.Native.Nat.{ℕ, zero, suc, _+_, _*_, _/_, _%_, _-_, _^_, _≤_, _<_}
 use mathlib.Core.Bool.{Bool, true, false}
 use mathlib.Core.List.{List, [], _∷_, _++_, append-nil}
 use native.Mathlib.Nat.{le-antisymm}
@@ -20,7 +20,7 @@ use Rattle.crumbmap.specs.Layouts.{Layout, layout1, tags}
 use Rattle.buckets.specs.Buckets.{carrying}
 use Rattle.buckets.specs.Words.{minisIn}
 use Rattle.words.specs.Steps.Wide.{wordBytes1}
-use Rattle.search.specs.Steps.Searches.{firstOf, wantedAt, chosen}
+use Rattle.search.specs.Steps.Searches.{firstOf, wantedAt, chosen, without}
 use Rattle.minifilter.specs.Steps.Slots.{bitsOf, minisOf, slotMinis, crumbAt, tagAt, spanOf}
 use Rattle.search.specs.declared.Carried.the-variants.{Key}
 use Rattle.multiset.proofs.SlotLaws.{slot-holds, holds-from, holds-copy}
@@ -28,7 +28,7 @@ use Rattle.buckets.proofs.WordLaws.{coded-minisIn}
 use Rattle.buckets.proofs.GapLaws.{gaps}
 use Rattle.buckets.proofs.PieceLaws.{store}
 use Rattle.buckets.proofs.CarryLaws.{carrying-append}
-use Rattle.minifilter.proofs.PassLaws.{slotMinis-used, zero-at, tag1}
+use Rattle.minifilter.proofs.PassLaws.{slotMinis-used, zero-at, gaps1, tag1}
 use Rattle.minifilter.proofs.HeldLaws.{Held, memberKey, held-crumb, held-minis1, held-key}
 
 -- ---- the zeros from a slot in use on
@@ -133,12 +133,6 @@ module _ (L : Layout) (crumbs : Bool) (c : ℕ) (b ys : List ℕ) (h : Held L cr
         keys = rw more (ap (λ (o : List ℕ). set o n key) (s .keys) ∙ store ws before n key (sym (s .many)) room);
       }
 
-pub member-stored : (ys out before : List ℕ) (slot v : ℕ) → slot < length ys → slot < length before → out ≡ take slot ys ++ drop slot before
-    → v ≡ getD ys slot 0 → set out slot v ≡ take (slot + 1) ys ++ drop (slot + 1) before
-member-stored ys out before slot v l room e q =
-    let more : take (slot + 1) ys ≡ take slot ys ++ (v ∷ []) = rw (add-one slot, q) (take-suc ys slot 0 l) in
-    rw more (ap (λ (o : List ℕ). set o slot v) e ∙ store (take slot ys) before slot v (length-take-le slot ys (omega arith)) room)
-
 -- ---- layout 1: a word is one u64 in either kind of bucket
 
 pub turn1 : (crumbs : Bool) (w : ℕ) → w < 2 ^ 64 → ones w ≡ layout1 .minis → (slot zeros : ℕ) → slot < length (minisIn 64 (layout1 .minis) w)
@@ -154,3 +148,12 @@ key1 crumbs b ys w slot zeros e h t l =
     let same = ap (λ (ms : List ℕ). getD ms slot 0) (held-minis1 b ys w e crumbs h) in
     let mini : trailingZeros 64 zeros - slot ≡ getD (highs (spanOf layout1 crumbs) ys) slot 0 = omega (arith, t .place, same) in
     rw (mini, ← tag1 crumbs b slot) (held-key layout1 crumbs b ys h slot l)
+
+-- the zeros of a word without the lowest are those from a slot on
+pub without-gaps : (crumbs : Bool) (w : ℕ) → w < 2 ^ 64 → ones w ≡ layout1 .minis → (slot : ℕ) → slot ≤ length (minisIn 64 (layout1 .minis) w)
+    → without slot (2 ^ 64 - 1 - w) ≡ gaps slot (drop slot (slotMinis layout1 crumbs w))
+unfolding without
+without-gaps crumbs w small full zero l = omega (arith, gaps1 w small full crumbs)
+without-gaps crumbs w small full (suc slot) l =
+    let before = without-gaps crumbs w small full slot (omega arith) in
+    rw (← add-one slot) (turn1 crumbs w small full slot (without slot (2 ^ 64 - 1 - w)) (omega arith) before .next)

@@ -14,3 +14,15 @@ pub enum Carried {
     Key(u32, usize),
     Nothing,
 }
+
+// A place among the members of a backyard bucket: a slot, and the word's zeros from that slot's on.
+pub struct Cursor {
+    pub slot: usize,
+    pub zeros: u64,
+}
+
+// A member that was passed, and the place behind it.
+pub struct Passed {
+    pub member: u32,
+    pub next: Cursor,
+}

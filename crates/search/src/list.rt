@@ -1,6 +1,8 @@
-// The members of a sound bucket in order: all of them, those that carry a crumb, and the first that does.
+// The members of a sound bucket in order: all keys of a front bucket, those that carry a crumb, the first that does, and one by one.
 
 use crate::Carried;
+use crate::Cursor;
+use crate::Passed;
 use crumbmap::layout::TAGS;
 use minifilter::slots;
 use words::word;
@@ -8,13 +10,13 @@ ghost use mathlib.Core.Path.{_≡_};
 ghost use Prim.Native.Nat.{_+_, _*_, _-_, _<_, _≤_};
 ghost use mathlib.Core.Bool.{false};
 ghost use mathlib.Core.List.{_++_};
-ghost use lib.ListN.{length, drop};
+ghost use lib.ListN.{length, drop, getD};
 ghost use lib.Count.{trailingZeros};
 ghost use Rattle.crumbmap.specs.Layouts.{layout1, tags};
 ghost use Rattle.buckets.specs.Buckets.{carrying, frontList, backList};
 ghost use Rattle.minifilter.specs.Steps.Readings.{SoundFront, SoundBack, Sound, membersOf};
 ghost use Rattle.minifilter.specs.Steps.Slots.{slotsOf, tagAt};
-ghost use Rattle.search.specs.Steps.Searches.{wantedAt, chosen, firstOf};
+ghost use Rattle.search.specs.Steps.Searches.{wantedAt, chosen, firstOf, OnSlot};
 
 // The key of the slot whose zero is the lowest of `zeros`.
 fn key_at(b: &[u8], zeros: u64, slot: usize) -> u32
@@ -76,21 +78,31 @@ pub fn list_carrying(b: &[u8], crumb: u32, out: &mut [u32]) -> usize
     list_in(b, true, crumb, out)
 }
 
-// All members of a backyard bucket, in order, into the start of `out`; how many.
-pub fn list_back(b: &[u8], out: &mut [u32]) -> usize
-    requires { ⌜ SoundBack layout1 (now b) × (length (now out) ≡ layout1 .backSlots) ⌝ }
-    ensures { λ r. ⌜ (r ≡ length (backList layout1 (now (b .entry)))) × (now (out .exit) ≡ backList layout1 (now (b .entry)) ++ drop r (now (out .entry))) ⌝ }
+// The place of a backyard bucket's first member.
+pub fn first_back(b: &[u8]) -> Cursor
+    requires { ⌜ SoundBack layout1 (now b) ⌝ }
+    ensures { λ r. ⌜ (r .slot ≡ 0) × OnSlot (now (b .entry)) r ⌝ }
 {
-    let word = word::word_of(b);
-    let members = word::occupancy(word);
-    let mut zeros = !word;
-    let mut slot: usize = 0;
-    while slot < members {
-        out[slot] = key_at(b, zeros, slot) * 16 + slots::crumb_of(b, slot);
-        zeros = zeros & (zeros - 1);
-        slot += 1;
+    Cursor {
+        slot: 0,
+        zeros: !word::word_of(b),
     }
-    slot
+}
+
+// The member at a place, and the place behind it.
+pub fn next_back(b: &[u8], at: Cursor) -> Passed
+    requires { ⌜ SoundBack layout1 (now b) × OnSlot (now b) at × (at .slot < length (backList layout1 (now b))) ⌝ }
+    ensures { λ r. ⌜ (r .member ≡ getD (backList layout1 (now (b .entry))) (at .slot) 0) × (r .next .slot ≡ at .slot + 1) × OnSlot (now (b .entry)) (r .next) ⌝ }
+{
+    let slot = at.slot;
+    let zeros = at.zeros;
+    Passed {
+        member: key_at(b, zeros, slot) * 16 + slots::crumb_of(b, slot),
+        next: Cursor {
+            slot: slot + 1,
+            zeros: zeros & (zeros - 1),
+        },
+    }
 }
 
 // The lowest of the keys that carry a crumb, and its slot: the first that holds the crumb.

@@ -150,12 +150,6 @@ module _ (L : Layout) (B j : ℕ) (img ys : List ℕ) (slot : ℕ) {o : Bool} (p
   unfolding allInTurn
   members-end h = sym (p ∙ rw (h, drop-length ys))
 
--- a bucket without members has none before its turn
-pub none-early : (L : Layout) (B j : ℕ) (img ys : List ℕ) → length ys ≡ 0 → true ≡ allInTurn L B j img ys
-unfolding allInTurn
-none-early L B j img [] e = refl
-none-early L B j img (y ∷ ys) e = absurd (omega arith)
-
 -- ---- one member: its front bucket
 
 pub turn-short : {L : Layout} {f : ℕ} {img : List ℕ} → FrontRead L f img → (x : ℕ) → length (inFront L f img) < L .frontSlots

@@ -9,7 +9,6 @@ use answers::Refusal;
 use crumbmap::Backyard;
 use crumbmap::Front;
 use crumbmap::Home;
-use crumbmap::layout::BACK_SLOTS;
 use crumbmap::layout::FRONT_SLOTS;
 use crumbmap::map::home_of;
 use image::back::read_back_at;
@@ -21,7 +20,8 @@ use minifilter::Reading;
 use search::find::count_back;
 use search::find::count_front;
 use search::find::largest_front;
-use search::list::list_back;
+use search::list::first_back;
+use search::list::next_back;
 use tails::Opening;
 use tails::open::open_image;
 ghost use mathlib.Core.Path.{_≡_};
@@ -86,22 +86,22 @@ pub fn check_sized(image: &[u8], size: usize) -> Checked
     }
 }
 
-// The members of the front buckets, or the first of them that is unsound.
+// The members of the front buckets, or the first of them that is unsound. What is added up are the free slots, the leading zeros of a word.
 fn count_fronts(image: &[u8], size: usize) -> Tally
     requires { ⌜ Whole size (now image) ⌝ }
     ensures { λ r. ⌜ FrontsSay layout1 size (now (image .entry)) r ⌝ }
 {
     let end = 8 * size;
-    let mut members = 0;
+    let mut free = 0;
     let mut f = 0;
     while f < end {
         let Reading::Members(n, _) = read_front_at(image, Front(f), 0) else {
             return Tally::Unsound(f);
         };
-        members += n;
+        free += FRONT_SLOTS - n;
         f += 1;
     }
-    Tally::Members(members)
+    Tally::Members(FRONT_SLOTS * end - free)
 }
 
 // The members of the backyard buckets, or the first of them that is unsound.
@@ -138,38 +138,20 @@ fn first_early(image: &[u8], size: usize) -> Fault
     Fault::Nowhere
 }
 
-// No member of a backyard bucket stands before its turn; an empty one is not listed.
+// No member of a backyard bucket stands before its turn: they are looked at where they stand.
 fn bucket_in_turn(image: &[u8], size: usize, bucket: Backyard) -> bool
     requires { ⌜ AllRead layout1 size (now image) × (bucket .0 < backyards size) ⌝ }
     ensures { λ r. ⌜ r ≡ allInTurn layout1 size (bucket .0) (now (image .entry)) (inBack layout1 size (bucket .0) (now (image .entry))) ⌝ }
 {
-    if count_back(back_bucket(image, size, bucket)) == 0 {
-        return true;
-    }
-    list_in_turn(image, size, bucket)
-}
-
-// The same by its members, listed.
-fn list_in_turn(image: &[u8], size: usize, bucket: Backyard) -> bool
-    requires { ⌜ AllRead layout1 size (now image) × (bucket .0 < backyards size) ⌝ }
-    ensures { λ r. ⌜ r ≡ allInTurn layout1 size (bucket .0) (now (image .entry)) (inBack layout1 size (bucket .0) (now (image .entry))) ⌝ }
-{
-    let mut members = [0u32; BACK_SLOTS];
-    let n = list_back(back_bucket(image, size, bucket), &mut members);
-    all_in_turn(image, size, bucket, &members[..n])
-}
-
-// None of these members of a backyard bucket stands before its turn.
-fn all_in_turn(image: &[u8], size: usize, bucket: Backyard, members: &[u32]) -> bool
-    requires { ⌜ AllRead layout1 size (now image) × (bucket .0 < backyards size) ⌝ }
-    ensures { λ r. ⌜ r ≡ allInTurn layout1 size (bucket .0) (now (image .entry)) (now (members .entry)) ⌝ }
-{
-    let mut slot = 0;
-    while slot < members.len() {
-        if !member_in_turn(image, size, bucket, members[slot]) {
+    let mine = back_bucket(image, size, bucket);
+    let members = count_back(mine);
+    let mut at = first_back(mine);
+    while at.slot < members {
+        let passed = next_back(mine, at);
+        if !member_in_turn(image, size, bucket, passed.member) {
             return false;
         }
-        slot += 1;
+        at = passed.next;
     }
     true
 }
@@ -183,7 +165,7 @@ fn member_in_turn(image: &[u8], size: usize, bucket: Backyard, member: u32) -> b
         return false;
     };
     let mine = bucket_of(image, front.0);
-    if count_front(mine) < FRONT_SLOTS {
+    if count_front(mine) != FRONT_SLOTS {
         return false;
     }
     largest_front(mine) <= member / 16

@@ -2,7 +2,8 @@
 use mathlib.Core.Path.{_≡_}
 use Prim.Native.Nat.{ℕ, _<_}
 use mathlib.Core.List.{List, []}
-use Rattle.crumbmap.specs.Layouts.{Layout, fronts}
+use lib.ListN.{length}
+use Rattle.crumbmap.specs.Layouts.{Layout, fronts, mostMembers}
 use Rattle.machine.specs.Results.{Result, accepted, andThen}
 use Rattle.machine.specs.Images.{inFront}
 use Rattle.machine.specs.Checks.{checkSized}
@@ -38,6 +39,12 @@ module _ (L : Layout) where
     pub first : KeyList L xs
     pub second : KeyList L ys
     pub into : Vacant B f target
+
+  -- three lists to work in, each with room for a front bucket's members
+  pub record Scratch (a b over : List ℕ) : Type 0 where
+    pub first : length a ≡ mostMembers L
+    pub second : length b ≡ mostMembers L
+    pub leaving : length over ≡ mostMembers L
 
   -- the keys of one list and then those of another put into front bucket f
   unfoldable pub joined : ℕ → ℕ → List ℕ → List ℕ → List ℕ → Result (List ℕ)

@@ -1,21 +1,23 @@
 -- What search finds in a sound bucket, at any layout, and the members that are asked for. `crumbs` is true of a backyard bucket.
 use mathlib.Core.Path.{_≡_}
-use Prim.Native.Nat.{ℕ, zero, suc, _+_, _*_, _-_, _<_, _≤_}
+use Prim.Native.Nat.{ℕ, zero, suc, _+_, _*_, _-_, _^_, _<_, _≤_}
 use mathlib.Core.Bool.{Bool, true, false, cond}
 use mathlib.Core.List.{List, [], _∷_}
 use mathlib.Core.Option.{Option, none, some}
-use lib.ListN.{take}
+use lib.ListN.{length, take}
+use lib.Bits.{bitAnd}
 use lib.Dec.{eqb}
 use Rattle.multiset.specs.Multisets.{below, copies, Found}
 use Rattle.multiset.specs.Digits.{value}
-use Rattle.crumbmap.specs.Layouts.{Layout, tags}
-use Rattle.buckets.specs.Buckets.{carrying}
+use Rattle.crumbmap.specs.Layouts.{Layout, layout1, tags}
+use Rattle.buckets.specs.Buckets.{carrying, backList}
 use Rattle.words.specs.Select.{selectIn}
 use Rattle.words.specs.Steps.Wide.{wordBytes1}
 use Rattle.minifilter.specs.Steps.Readings.{Sound, membersOf}
 use Rattle.minifilter.specs.Steps.Slots.{spanOf, lowAt, crumbAt, tagAt}
 use Rattle.search.specs.declared.Carried.{Carried}
 use Rattle.search.specs.declared.Carried.the-variants.{Key, Nothing}
+use Rattle.search.specs.declared.Cursor.{Cursor}
 use Rattle.search.specs.declared.Search.{Search}
 use Rattle.search.specs.declared.Search.the-variants.{At, Absent}
 
@@ -82,3 +84,14 @@ chosen true crumb ys = carrying crumb ys
 abbrev pub firstOf : ℕ → List ℕ → List ℕ → Carried
 firstOf c ys [] = Nothing
 firstOf c ys (x ∷ xs) = Key x (below (x * 16 + c) ys)
+
+-- ---- the members one by one
+
+-- z without its n lowest ones
+unfoldable pub without : ℕ → ℕ → ℕ
+without zero z = z
+without (suc n) z = let rest = without n z in bitAnd rest (rest - 1)
+
+-- layout 1: a place among the members of a backyard bucket, or behind the last
+abbrev pub OnSlot : List ℕ → Cursor → Type 0
+OnSlot b c = (c .slot ≤ length (backList layout1 b)) × (c .zeros ≡ without (c .slot) (2 ^ 64 - 1 - value 256 (take wordBytes1 b)))

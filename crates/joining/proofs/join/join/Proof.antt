@@ -14,13 +14,13 @@ use Rattle.joining.proofs.join.join.Tie as tie
 -- the points of the walk: the start, those of the first list that fit in front counted, the front bucket filled, the others of the first list
 -- pushed, those that left pushed
 abbrev start : tie.After-in-front → tie.Start
-start c = c .before .before .before .before .before
+start c = c .before .before .before .before .before .before
 
 abbrev counted : tie.After-fill-both → tie.After-in-front
 counted c = c .before .before .before .before
 
-abbrev written : tie.After-slice-known2 → tie.After-fill-both
-written c = c .before .before .before
+abbrev written : tie.After-slice-known4 → tie.After-fill-both
+written c = c .before .before .before .before
 
 abbrev filled : tie.After-push-all → tie.After-fill-both
 filled c = written (c .before .before .before)
@@ -33,7 +33,7 @@ pushed2 c = c .before .before .before
 
 -- the target is known
 target : (c : tie.After-in-front) → Known layout1 (start c .args .size) (start c .args .target .now)
-target c = known fits1 (λ i. c .before .slice-known .given i .fits) (start c .pre .1 .into .checked)
+target c = known fits1 (λ i. c .before .before .slice-known .given i .fits) (start c .pre .1 .into .checked)
 
 slice-aggregate-fill-both : tie.Need-slice-aggregate-fill-both
 slice-aggregate-fill-both c = sym (length-take-le _ _ (c .before .in-front .ensures .0))
@@ -42,7 +42,7 @@ fill-both-requires : tie.Need-fill-both-requires
 fill-both-requires c κs =
     let p = c .before .before .before in
     let j = start p .pre .1 in
-    join-sharing fits1 (target p) (j .into) (j .first) (j .second) (p .in-front .result) (p .in-front .ensures) refl
+    join-sharing fits1 (target p) (j .into) (j .first) (j .second) (p .in-front .result) (p .in-front .ensures) (start p .pre .2)
 
 push-all-requires : tie.Need-push-all-requires
 push-all-requires c κs =
@@ -100,7 +100,6 @@ join-spec =
     (tie.spec
     (λ c κs. search needs)
     slice-aggregate-fill-both
-    (λ c. search needs)
     fill-both-requires
     (λ c. search needs)
     (λ c. search needs)
@@ -111,6 +110,8 @@ join-spec =
     slice-aggregate-push-all
     push-all-requires-2
     (λ c. search needs)
+    (λ c. search needs)
     returns
+    (λ c. search needs)
     (λ c. search needs)
     returns-2)

@@ -1,5 +1,4 @@
 -- `joining::join::merge_both` meets its contract. Both front buckets' members are listed, and both lists are put in.
-use mathlib.Core.Path.{refl}
 use borrow.Author.Needs.{needs}
 use Rattle.crumbmap.specs.Layouts.{layout1}
 use Rattle.buckets.proofs.BucketLaws.{fits1}
@@ -14,13 +13,13 @@ abbrev start : tie.After-slice-known → tie.Start
 start c = c .before .before .before .before
 
 abbrev lent : tie.After-list-members → tie.After-slice-known
-lent c = c .before .before
+lent c = c .before .before .before .before .before
 
 abbrev listed : tie.After-list-members2 → tie.After-list-members
-listed c = c .before .before .before
+listed c = c .before .before .before .before
 
-abbrev listed2 : tie.After-join-arg → tie.After-list-members2
-listed2 c = c .before .before .before .before
+abbrev listed2 : tie.After-join-arg4 → tie.After-list-members2
+listed2 c = c .before .before .before .before .before .before
 
 -- the members of either can be read
 first : (c : tie.After-slice-known) → MembersRead layout1 (start c .args .size) (start c .args .front .0) (start c .args .first .now)
@@ -34,22 +33,22 @@ second c =
     members-known (known fits1 (λ i. c .before .shared-slice-known3 .given i .fits) (p .from .second)) (p .into .front)
 
 list-members-requires : tie.Need-list-members-requires
-list-members-requires c κs = (first (c .before), refl)
+list-members-requires c κs = let l = c .before .before .before .before in (first l, start l .pre .2 .first)
 
 list-members-requires-2 : tie.Need-list-members-requires-2
-list-members-requires-2 c κs = (second (lent (c .before .before)), refl)
+list-members-requires-2 c κs = let l = lent (c .before .before .before) in (second l, start l .pre .2 .second)
 
-array-share-prefix-a : tie.Need-array-share-prefix-a
-array-share-prefix-a c = listed-fits (listed (c .before) .list-members .ensures)
+slice-reshare-prefix-join : tie.Need-slice-reshare-prefix-join
+slice-reshare-prefix-join c = listed-fits (listed (c .before .before) .list-members .ensures)
 
 slice-aggregate-join : tie.Need-slice-aggregate-join
-slice-aggregate-join c = listed-length (listed (c .before .before) .list-members .ensures)
+slice-aggregate-join c = listed-length (listed (c .before .before .before) .list-members .ensures)
 
-array-share-prefix-b : tie.Need-array-share-prefix-b
-array-share-prefix-b c = listed-fits (c .before .before .list-members2 .ensures)
+slice-reshare-prefix-join-2 : tie.Need-slice-reshare-prefix-join-2
+slice-reshare-prefix-join-2 c = listed-fits (c .before .before .before .list-members2 .ensures)
 
 slice-aggregate-join-2 : tie.Need-slice-aggregate-join-2
-slice-aggregate-join-2 c = listed-length (c .before .before .before .list-members2 .ensures)
+slice-aggregate-join-2 c = listed-length (c .before .before .before .before .list-members2 .ensures)
 
 join-requires : tie.Need-join-requires
 join-requires c κs =
@@ -57,11 +56,11 @@ join-requires c κs =
     let l = listed m in
     let k = lent l in
     rw (listed-take (l .list-members .ensures), listed-take (m .list-members2 .ensures))
-    (start k .pre .0, record { first = members-keys (first k); second = members-keys (second k); into = start k .pre .1 .into })
+    (start k .pre .0, record { first = members-keys (first k); second = members-keys (second k); into = start k .pre .1 .into }, start k .pre .2 .leaving)
 
 returns : tie.Need-returns
 returns c =
-    let j = c .before .before in
+    let j = c .before .before .before .before in
     let m = listed2 (j .before) in
     rw (listed-take (listed m .list-members .ensures), listed-take (m .list-members2 .ensures)) at (j .join .ensures)
 
@@ -69,14 +68,15 @@ pub merge-both-spec : {M : Type 1} → statement M
 merge-both-spec =
     tie.close
     (tie.spec
-    (λ c. search needs)
     list-members-requires
-    (λ c. search needs)
     list-members-requires-2
-    array-share-prefix-a
+    slice-reshare-prefix-join
     slice-aggregate-join
-    array-share-prefix-b
+    slice-reshare-prefix-join-2
     slice-aggregate-join-2
     join-requires
+    (λ c. search needs)
+    (λ c. search needs)
+    (λ c. search needs)
     (λ c. search needs)
     returns)

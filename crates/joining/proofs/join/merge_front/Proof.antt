@@ -16,7 +16,7 @@ abbrev start : tie.After-slice-known → tie.Start
 start c = c .before .before .before .before
 
 abbrev lent : tie.After-count-front → tie.After-slice-known
-lent c = c .before .before
+lent c = c .before .before .before .before .before
 
 abbrev counted : tie.After-bucket2 → tie.After-count-front
 counted c = c .before .before
@@ -44,10 +44,10 @@ second-many : (c : tie.After-count-front2) →
 second-many c = rw (c .before .bucket2 .ensures .0) at (c .count-front2 .ensures)
 
 bucket-requires : tie.Need-bucket-requires
-bucket-requires c κs = first c .inside
+bucket-requires c κs = first (c .before .before .before) .inside
 
 count-front-requires : tie.Need-count-front-requires
-count-front-requires c κs = rw (c .bucket .ensures .0) (first (c .before) .sound)
+count-front-requires c κs = rw (c .bucket .ensures .0) (first (c .before .before .before .before) .sound)
 
 take-over-requires : tie.Need-take-over-requires
 take-over-requires c κs =
@@ -82,5 +82,8 @@ merge-front-spec =
     (λ c. search needs)
     (λ c. search needs)
     (λ c κs. search needs)
+    (λ c. search needs)
+    (λ c. search needs)
+    (λ c. search needs)
     (λ c. search needs)
     (λ c. search needs))

@@ -1,5 +1,5 @@
 -- `merging::merge::merge_bodies` meets its contract. All buckets cleared are the fresh target (`cleared-all`), which takes front bucket after front bucket.
-use mathlib.Core.Path.{_≡_, _∙_}
+use mathlib.Core.Path.{_≡_, refl, _∙_}
 use native.Mathlib.Omega.{arith}
 use borrow.Author.Needs.{needs}
 use Rattle.crumbmap.specs.Layouts.{layout1}
@@ -23,10 +23,15 @@ clear-all-requires : tie.Need-clear-all-requires
 clear-all-requires c κs = c .before .before .before .before .pre .1 .long ∙ unfold lengthOf in omega arith
 
 merge-fronts-requires : tie.Need-merge-fronts-requires
-merge-fronts-requires c κs = let d = cleared c in (c .before .before .entries .ensures, start d .pre .0, emptied d)
+merge-fronts-requires c κs =
+    let l = c .before .before .before in
+    let d = cleared l in
+    (l .before .before .entries .ensures, start d .pre .0, emptied d, record { first = refl; second = refl; leaving = refl })
 
 returns : tie.Need-returns
-returns c = let m = c .before .before in rw (emptied (cleared (m .before))) at (m .merge-fronts .ensures)
+returns c =
+    let m = c .before .before .before .before .before in
+    rw (emptied (cleared (m .before .before .before .before))) at (m .merge-fronts .ensures)
 
 pub merge-bodies-spec : {M : Type 1} → statement M
 merge-bodies-spec =
@@ -36,6 +41,9 @@ merge-bodies-spec =
     (λ c. search needs)
     clear-all-requires
     (λ c κs. search needs)
+    (λ c. search needs)
+    (λ c. search needs)
+    (λ c. search needs)
     (λ c. search needs)
     merge-fronts-requires
     (λ c. search needs)

@@ -68,7 +68,7 @@ returns-2 : tie.Need-returns-2
 returns-2 c =
     let n = c .before in
     let k = known (lent n) in
-    rw (homed k) (sym (turn-short (read k) (start (sought k) .args .member / 16) (omega (arith, c .if1 .taken, many n))))
+    rw (homed k) (sym (turn-short (read k) (start (sought k) .args .member / 16) (omega (arith, c .if1 .taken, many n, read k .list .room))))
 
 largest-front-requires : tie.Need-largest-front-requires
 largest-front-requires c κs = rw (lent (counted c) .bucket .ensures .0) (full c .read .sound, full c .full)
