@@ -361,7 +361,7 @@ raised-fits : (B : ℕ) (t : Tail) → Within nothing cap (raised layout1 B t)
 unfolding raised
 raised-fits B t = within-cond (ltb (t .total) (slots layout1 B)) _ _ (λ _. pass _) (λ _. bar 12 0 (omega arith) (omega arith))
 
-lowered-fits : (t : Tail) → Within nothing cap (lowered layout1 t)
+lowered-fits : (t : Tail) → Within nothing cap (lowered t)
 unfolding lowered
 lowered-fits t = within-cond (eqb (t .total) 0) _ _ (λ _. bar 12 0 (omega arith) (omega arith)) (λ _. pass _)
 

@@ -186,20 +186,20 @@ plan-roomless L t img (P.TakesOut d) said = changes (rw (said .delete)) (change-
 
 module _ {o : Opened} {img : List ℕ} (s : Opens o img) (k : ℕ) where
   pub delete-entered : deleteOf known img k ≡ changedBy (headerOf (o .size) (o .total) (o .changes)) (M.deleteOf layout1 (body img) k)
-      (lowered layout1 (record { total = o .total; changes = o .changes }))
+      (lowered (record { total = o .total; changes = o .changes }))
   unfolding deleteOf
-  delete-entered = then-opened (λ h. changedBy h (M.deleteOf (h .layout) (body img) k) (lowered (h .layout) (h .tail))) s
+  delete-entered = then-opened (λ h. changedBy h (M.deleteOf (h .layout) (body img) k) (lowered (h .tail))) s
 
   pub delete-opened : {t : Target} → Locates layout1 (o .size) k t
       → deleteOf known img k
       ≡ changedBy (headerOf (o .size) (o .total) (o .changes)) (deleteAt layout1 (t .size) (t .front .0) (t .key) (take (o .end) img))
-      (lowered layout1 (record { total = o .total; changes = o .changes }))
+      (lowered (record { total = o .total; changes = o .changes }))
   unfolding M.deleteOf
   delete-opened l = delete-entered ∙ rw (hash-call s l (λ B f x b. deleteAt layout1 B f x b))
 
 -- the room that the total has for one less
 pub lowered-room : (total changes : ℕ)
-    → lowered layout1 (record { total = total; changes = changes }) ≡ tailWithin (ltb 0 total) (record { total = total - 1; changes = changes + 1 })
+    → lowered (record { total = total; changes = changes }) ≡ tailWithin (ltb 0 total) (record { total = total - 1; changes = changes + 1 })
 unfolding lowered
 lowered-room total changes = elim (ℕ-discrete total 0) [
   | yes e ↦ rw (eq-eqb total 0 e, le-ltb 0 total (omega arith))

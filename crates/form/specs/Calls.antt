@@ -53,7 +53,7 @@ module _ (layouts : Numbering) where
   insertOf img k = andThen (opened layouts img) λ h. changedBy h (M.insertOf (h .layout) (body img) k) (raised (h .layout) (h .size) (h .tail))
 
   unfoldable pub deleteOf : List ℕ → ℕ → Result Change
-  deleteOf img k = andThen (opened layouts img) λ h. changedBy h (M.deleteOf (h .layout) (body img) k) (lowered (h .layout) (h .tail))
+  deleteOf img k = andThen (opened layouts img) λ h. changedBy h (M.deleteOf (h .layout) (body img) k) (lowered (h .tail))
 
   unfoldable pub askOf : List ℕ → ℕ → Result Asked
   askOf img k = andThen (opened layouts img) λ h. M.askOf (h .layout) (body img) k

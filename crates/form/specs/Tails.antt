@@ -54,12 +54,13 @@ module _ (L : Layout) where
   members B b = sum (λ (f : ℕ). occupancy (frontAt L f b)) 0 (fronts B) + sum (λ (j : ℕ). occupancy (backAt L B j b)) 0 (backyards B)
 
   -- "each accepted insert and delete adjusts the total and adds 1 to the change count"; one that "would take the total below 0 or above the slots
-  -- gets 12"
+  -- gets 12". An insert's
   unfoldable pub raised : ℕ → Tail → Result Tail
   raised B t = cond (ltb (t .total) (slots B)) (accepted (record { total = t .total + 1; changes = t .changes + 1 })) (refused 12 0)
 
-  unfoldable pub lowered : Tail → Result Tail
-  lowered t = cond (eqb (t .total) 0) (refused 12 0) (accepted (record { total = t .total - 1; changes = t .changes + 1 }))
+-- and a delete's
+unfoldable pub lowered : Tail → Result Tail
+lowered t = cond (eqb (t .total) 0) (refused 12 0) (accepted (record { total = t .total - 1; changes = t .changes + 1 }))
 
 -- what an image tells of itself: its size B, its layout with the number that marks it, and what its tail tells
 pub record Header : Type 0 where

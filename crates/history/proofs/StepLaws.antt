@@ -78,7 +78,7 @@ module _ {layouts : Numbering} {n : ℕ} {L : Layout} {B : ℕ} {img : List ℕ}
   unfolding insertOf
   insertOf-body k = rw opens refl
 
-  deleteOf-body : (k : ℕ) → deleteOf layouts img k ≡ changedBy (headerOf n L B t) (M.deleteOf L (body img) k) (lowered L t)
+  deleteOf-body : (k : ℕ) → deleteOf layouts img k ≡ changedBy (headerOf n L B t) (M.deleteOf L (body img) k) (lowered t)
   unfolding deleteOf
   deleteOf-body k = rw opens refl
 

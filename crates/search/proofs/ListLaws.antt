@@ -9,7 +9,7 @@ use native.Mathlib.Numerals.{add-one}
 use native.Mathlib.Decide.{decLe}
 use native.Mathlib.Omega.{arith}
 use lib.ListN.{length, take, drop, set, getD, length-append}
-use lib.Seq.{take-suc, length-take-le}
+use lib.Seq.{take-suc}
 use lib.Count.{trailingZeros, ones}
 use lib.Bits.{bitAnd}
 use lib.Dec.{T}

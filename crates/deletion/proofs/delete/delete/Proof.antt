@@ -27,7 +27,7 @@ returns c =
     let a = start o .args in
     changes
     (then-shut (a .image .now) (c .before .why .given .0 .0)
-    (λ h. changedBy h (M.deleteOf (h .layout) (body (a .image .now)) (a .hash)) (lowered (h .layout) (h .tail)))
+    (λ h. changedBy h (M.deleteOf (h .layout) (body (a .image .now)) (a .hash)) (lowered (h .tail)))
     (said-shut (a .image .now) (o .open-image .ensures) (c .before .why .given .1)))
     (change-refused (c .before .why .given .0 .0) (a .image .now))
 

@@ -39,7 +39,7 @@ module _ (s : tie.Start) where
   body t = deleteAt layout1 (t .size) (t .front .0) (t .key) (take (s .args .opened .end) (s .args .image .now))
 
   abbrev adjusts : Result Tail
-  adjusts = lowered layout1 (record { total = s .args .opened .total; changes = s .args .opened .changes })
+  adjusts = lowered (record { total = s .args .opened .total; changes = s .args .opened .changes })
 
 -- the room that the code found is that of the total
 roomed : (s : tie.Start) → adjusts s ≡ tailWithin (ltb 0 (s .args .opened .total)) (tail s)

@@ -1,6 +1,6 @@
 -- `joining::join::join` meets its contract. One front write and pushes are what putting in all keys of both lists one by one gives (`join-on`,
 -- `join-full`).
-use mathlib.Core.Path.{refl, sym}
+use mathlib.Core.Path.{sym}
 use native.Mathlib.Omega.{arith}
 use lib.Seq.{length-take-le}
 use borrow.Author.Needs.{needs}

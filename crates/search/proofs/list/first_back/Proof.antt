@@ -1,6 +1,4 @@
 -- `search::list::first_back` meets its contract: no zero is taken away.
-use mathlib.Core.Path.{refl}
-use native.Mathlib.Omega.{arith}
 use borrow.Author.Needs.{needs}
 use Rattle.search.specs.Steps.Searches.{without}
 use Rattle.search.proofs.list.first_back.Statement.{statement}

@@ -1,13 +1,11 @@
 -- `search::list::next_back` meets its contract: the lowest zero stands over the member's mini-bucket, and the others are those from the next slot on.
-use mathlib.Core.Path.{_≡_, refl, sym, _∙_}
+use mathlib.Core.Path.{_≡_, refl, _∙_}
 use Prim.Native.Nat.{ℕ, _+_, _*_, _/_, _^_, _<_}
 use mathlib.Core.Bool.{true}
-use mathlib.Core.List.{List}
 use native.Mathlib.Omega.{arith}
 use native.Mathlib.Numerals.{add-one}
-use lib.ListN.{length, take, drop, getD}
+use lib.ListN.{take, getD}
 use lib.Seq.{length-take-le}
-use borrow.Author.Needs.{needs}
 use Rattle.multiset.specs.Digits.{value}
 use Rattle.crumbmap.specs.Layouts.{layout1}
 use Rattle.buckets.specs.Words.{minisIn}

@@ -5,7 +5,6 @@ use Prim.Native.Nat.{ℕ, _/_, _%_, _-_, _<_}
 use mathlib.Core.List.{List}
 use native.Mathlib.Omega.{arith}
 use lib.ListN.{length, drop, getD}
-use borrow.Author.Needs.{needs}
 use Rattle.crumbmap.specs.Layouts.{layout1}
 use Rattle.crumbmap.specs.CrumbMap.{home}
 use Rattle.buckets.specs.Buckets.{backList}
