@@ -13,7 +13,7 @@ use Rattle.machine.specs.Pages.{Run}
 use Rattle.machine.specs.Checks.{checkSized}
 use Rattle.machine.specs.Merges.{mergeFrom}
 use Rattle.machine.specs.Calls as M
-use Rattle.machine.specs.Calls.{written}
+use Rattle.machine.specs.Calls.{written, leftOf}
 use Rattle.machine.specs.Rows as R
 use Rattle.machine.specs.Rows.{Row, descends}
 use Rattle.machine.specs.OccupancyPages as O
@@ -96,7 +96,6 @@ module _ (layouts : Numbering) where
       andThen (sized (body target)) λ D.
       cond (eqb B C && eqb B D) (mergeSizedOf B a b) (refused 2 0)
 
--- the target after a merge of `a` and another image: "4; kept, but a merge's target is fresh", its tail too
+-- the target after a merge of `a` and another image: fresh with its tail, of the layout of `a`
 abbrev pub targetOf : Numbering → List ℕ → Result (List ℕ) → List ℕ → List ℕ
-targetOf layouts a (accepted img) old = img
-targetOf layouts a (refused n i) old = cond (eqb n 4) (written (freshOf layouts (markOf a) old) old) old
+targetOf layouts a m old = leftOf (written (freshOf layouts (markOf a) old) old) m old

@@ -53,12 +53,12 @@ module _ (L : Layout) where
   unfoldable pub members : ℕ → List ℕ → ℕ
   members B b = sum (λ (f : ℕ). occupancy (frontAt L f b)) 0 (fronts B) + sum (λ (j : ℕ). occupancy (backAt L B j b)) 0 (backyards B)
 
-  -- "each accepted insert and delete adjusts the total and adds 1 to the change count"; one that "would take the total below 0 or above the slots
-  -- gets 12". An insert's
+  -- an insert's tail: "each accepted insert and delete adjusts the total and adds 1 to the change count"; one that "would take the total below 0 or
+  -- above the slots gets 12"
   unfoldable pub raised : ℕ → Tail → Result Tail
   raised B t = cond (ltb (t .total) (slots B)) (accepted (record { total = t .total + 1; changes = t .changes + 1 })) (refused 12 0)
 
--- and a delete's
+-- a delete's, by the same sentences
 unfoldable pub lowered : Tail → Result Tail
 lowered t = cond (eqb (t .total) 0) (refused 12 0) (accepted (record { total = t .total - 1; changes = t .changes + 1 }))
 

@@ -62,7 +62,7 @@ abbrev pub outputOf : Result Run → List ℕ → List ℕ
 outputOf (accepted r) out = r .entries ++ drop (length (r .entries)) out
 outputOf (refused n i) out = out
 
--- "4; kept, but a merge's target is fresh": the one refusal that writes
-abbrev pub targetOf : Layout → Result (List ℕ) → List ℕ → List ℕ
-targetOf L (accepted img) old = img
-targetOf L (refused n i) old = cond (eqb n 4) (written (freshOf L old) old) old
+-- a merge's target, where `fresh` is the fresh image: "4; kept, but a merge's target is fresh", the one refusal that writes
+abbrev pub leftOf : List ℕ → Result (List ℕ) → List ℕ → List ℕ
+leftOf fresh (accepted img) old = img
+leftOf fresh (refused n i) old = cond (eqb n 4) fresh old

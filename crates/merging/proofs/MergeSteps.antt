@@ -19,7 +19,7 @@ use Rattle.machine.specs.Results.{Result, accepted, refused, andThen}
 use Rattle.machine.specs.Images.{inFront, emptyImage}
 use Rattle.machine.specs.Machine.{membersAt}
 use Rattle.machine.specs.Merges.{insertAll, mergeFrom}
-use Rattle.machine.specs.Calls.{written}
+use Rattle.machine.specs.Calls.{written, leftOf}
 use Rattle.machine.specs.Checks.{unless, unsoundFront, unsoundBack, early, checkSized}
 use Rattle.machine.proofs.AcceptedLaws.{andThen-andThen, never-refused}
 use Rattle.machine.proofs.Invariant.{Good, total}
@@ -43,7 +43,7 @@ use Rattle.spill.specs.Steps.Settling.{reached}
 use Rattle.spill.proofs.SpillSteps.{reached-all, reached-full, then-on, then-full}
 use Rattle.joining.specs.Steps.Joins.{Checked, Sources, Merging, joined, bothInserted}
 use Rattle.joining.proofs.CheckedImages.{Known, checked-of, members-known}
-use Rattle.merging.specs.Steps.Targets.{Told, leftOf, anew, freshForm, bothMerged, MergesInto}
+use Rattle.merging.specs.Steps.Targets.{Told, anew, freshForm, bothMerged, MergesInto}
 
 -- ---- the tails of the sources
 
@@ -159,8 +159,7 @@ module _ (layouts : Numbering) {L : Layout} (n : ℕ) (there : layouts n ≡ som
   -- the target of a merge, by the layout of the first source and by the target's size
   pub target-left : (B : ℕ) (a old : List ℕ) → markOf a ≡ n → Whole B (body old) → (m : Result (List ℕ))
       → targetOf layouts a m old ≡ leftOf (freshForm L n B) m old
-  target-left B a old e w (accepted img) = refl
-  target-left B a old e w (refused k i) = rw (e, fresh-whole old w)
+  target-left B a old e w m = rw (e, fresh-whole old w)
 
 -- a merge of two images whose tails were read is that of their bodies
 pub merged-left : (B : ℕ) (a b old : List ℕ) {t s u v : ℕ} {r : Outcome} {new : List ℕ} → headed known B a ≡ accepted (headerOf B t u)

@@ -1,21 +1,15 @@
 -- What the steps of a merge ask of a source's body, and what they leave in the target.
 use Prim.Native.Nat.{ℕ, _≤_}
-use mathlib.Core.Bool.{cond}
 use mathlib.Core.List.{List, _++_}
-use lib.Dec.{eqb}
 use Rattle.crumbmap.specs.Layouts.{Layout, fronts}
-use Rattle.machine.specs.Results.{Result, accepted, refused, andThen}
+use Rattle.machine.specs.Results.{Result, accepted, andThen}
 use Rattle.machine.specs.Images.{emptyImage}
 use Rattle.machine.specs.Merges.{mergeFrom}
+use Rattle.machine.specs.Calls.{leftOf}
 use Rattle.form.specs.Tails.{tailBytes, started, slots}
 use Rattle.answers.specs.Answers.{Leaves}
 use Rattle.answers.specs.declared.Outcome.{Outcome}
 use Rattle.image.specs.Steps.ImageReads.{Whole}
-
--- what a merge that is `m` on the machine leaves of the target `old`: it is `fresh` where it was full
-abbrev pub leftOf : List ℕ → Result (List ℕ) → List ℕ → List ℕ
-leftOf fresh (accepted img) old = img
-leftOf fresh (refused n i) old = cond (eqb n 4) fresh old
 
 module _ (L : Layout) where
   -- a body of size B, and the total that its tail tells
