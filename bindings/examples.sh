@@ -1,5 +1,5 @@
 #!/usr/bin/env bash
-# Builds and runs the example in C and the one in Rust, and compares what they print.
+# Builds and runs the examples, a day in C and in Rust, which must print the same, and a walk.
 # CAPI_LIB_DIR names the folder with libcapi.a.
 set -euo pipefail
 : "${CAPI_LIB_DIR:?must name the folder with libcapi.a}"
@@ -8,11 +8,16 @@ export CAPI_LIB_DIR
 cd "$(dirname "$0")"
 mkdir -p target
 
+rust_example() {
+  cargo run --offline --quiet --release --manifest-path rust/Cargo.toml --example "$1"
+}
+
 "${CC:-cc}" -std=c99 -O2 -Wall -Wextra -Werror -I ../include c/day.c \
     "$CAPI_LIB_DIR/libcapi.a" -o target/day-c
 target/day-c | tee target/day-c.txt
 
-cargo run --offline --quiet --release --manifest-path rust/Cargo.toml --example day > target/day-rust.txt
-
+rust_example day > target/day-rust.txt
 cmp target/day-c.txt target/day-rust.txt
 echo "C and Rust print the same"
+
+rust_example walk

@@ -57,7 +57,8 @@ enum {
     BCF_BAD_TAIL = 11,      /* the tail is bad */
     BCF_MISCOUNTED = 12,    /* check, merge, detach: the total differs from the members; insert,
                                delete: it would go above the slots or below 0 */
-    BCF_SPENT = 13          /* insert, delete: the change count is at its top, 2^64 - 1 */
+    BCF_SPENT = 13,         /* insert, delete: the change count is at its top, 2^64 - 1 */
+    BCF_CHANGED = 14        /* page: the change count is not the image's */
 };
 
 #define BCF_NUMBER(answer) ((unsigned)((uint64_t)(answer) >> 56))
@@ -120,10 +121,17 @@ uint64_t bcf_count(const uint8_t *image, size_t length, uint64_t hash);
 #define BCF_COUNT_READS(answer) ((uint32_t)(BCF_VALUE(answer) >> 32))
 
 /* Writes the fingerprints of the longest run of whole front buckets from `start` on that fits,
- * ascending; the rest of the output keeps its content. A walk starts at 0 and follows
- * BCF_PAGE_NEXT up to F. 72 entries hold any bucket. */
-uint64_t bcf_page(const uint8_t *image, size_t length, uint64_t start, uint64_t *out,
-                  size_t out_length);
+ * ascending; the rest of the output keeps its content. `changes` must be the change count of the
+ * image. 72 entries hold any bucket.
+ *
+ * A walk lists all members. It takes the change count from bcf_tail before its first page, brings
+ * that number with every page, starts at 0 and follows BCF_PAGE_NEXT up to F. BCF_CHANGED tells
+ * that the image has changed: the walk must begin anew. A walk whose pages were all accepted has
+ * listed the members as they stood at its first page, each copy, ascending, whatever was called
+ * between its pages. Only bcf_fresh, bcf_merge, also one that is full, and bcf_attach into the
+ * image start its count anew, so that a change may go unnoticed: no walk may go on across them. */
+uint64_t bcf_page(const uint8_t *image, size_t length, uint64_t start, uint64_t changes,
+                  uint64_t *out, size_t out_length);
 
 /* Of an accepted page. */
 #define BCF_PAGE_HOW_MANY(answer) ((uint32_t)BCF_VALUE(answer))

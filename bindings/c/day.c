@@ -1,7 +1,7 @@
 /*
- * A day of readings from C: 96 quarter hours of 20 houses are filed, asked for, taken out, moved to
- * the old form and back, and merged with another day, a house's day is asked for in one row, and
- * lines of an occupancy page are printed. Prints the same as the example in Rust.
+ * A day of readings from C: 96 quarter hours of 20 houses are filed, walked, asked for, taken out,
+ * moved to the old form and back, and merged with another day, a house's day is asked for in one
+ * row, and lines of an occupancy page are printed. Prints the same as the example in Rust.
  */
 #include "breadcrumb.h"
 
@@ -53,13 +53,21 @@ static void print_tail(const char *name, const uint8_t *image)
     printf("%s: total %" PRIu64 ", change count %" PRIu64 "\n", name, out[0], out[1]);
 }
 
+/* The change count, which every page of a walk brings. */
+static uint64_t changes_of(const uint8_t *image)
+{
+    uint64_t out[2];
+    value(bcf_tail(image, BCF_LENGTH(B), out, 2));
+    return out[1];
+}
+
 /* Walks the pages of an image. */
 static void list(const char *name, const uint8_t *image)
 {
-    uint64_t out[100], next = 0, members = 0, last = 0;
+    uint64_t out[100], changes = changes_of(image), next = 0, members = 0, last = 0;
     int pages = 0;
     while (next < BCF_FRONTS(B)) {
-        uint64_t answer = bcf_page(image, BCF_LENGTH(B), next, out, 100);
+        uint64_t answer = bcf_page(image, BCF_LENGTH(B), next, changes, out, 100);
         value(answer);
         members += BCF_PAGE_HOW_MANY(answer);
         if (BCF_PAGE_HOW_MANY(answer) > 0)
@@ -68,6 +76,37 @@ static void list(const char *name, const uint8_t *image)
         pages++;
     }
     printf("%s: %" PRIu64 " members on %d pages, the last %" PRIu64 "\n", name, members, pages, last);
+}
+
+/* Files a reading between two pages of a walk, which must then begin anew. */
+static void file_between_pages(uint8_t *image, uint64_t hash)
+{
+    uint64_t out[100], changes = changes_of(image);
+    uint64_t answer = bcf_page(image, BCF_LENGTH(B), 0, changes, out, 100);
+    value(answer);
+    value(bcf_insert(image, BCF_LENGTH(B), hash));
+    answer = bcf_page(image, BCF_LENGTH(B), BCF_PAGE_NEXT(answer), changes, out, 100);
+    printf("filed between two pages, the second is refused: %u\n", BCF_NUMBER(answer));
+    list("walked anew", image);
+}
+
+/* Asks for one reading, files it again in the middle of a walk, and takes it out. */
+static void try_reading(uint8_t *image, uint64_t hash)
+{
+    uint64_t asked = bcf_ask(image, BCF_LENGTH(B), hash);
+    value(asked);
+    printf("house 7, quarter 30: place %u, slot %u, %u reads\n", BCF_ASK_PLACE(asked),
+           BCF_ASK_SLOT(asked), BCF_ASK_READS(asked));
+    file_between_pages(image, hash);
+    uint64_t counted = bcf_count(image, BCF_LENGTH(B), hash);
+    value(counted);
+    asked = bcf_ask(image, BCF_LENGTH(B), hash);
+    value(asked);
+    printf("filed twice: %u copies, %u of them where the ask ended\n", BCF_COUNT_COPIES(counted),
+           BCF_ASK_COPIES(asked));
+    value(bcf_delete(image, BCF_LENGTH(B), hash));
+    value(bcf_delete(image, BCF_LENGTH(B), hash));
+    printf("taken out a third time: %u\n", BCF_NUMBER(bcf_delete(image, BCF_LENGTH(B), hash)));
 }
 
 /* Entries in the order of their hashes are in the order of their front buckets. */
@@ -111,26 +150,10 @@ int main(void)
     file_day(tomorrow, QUARTERS);
     list("today", today);
 
-    uint64_t asked = bcf_ask(today, sizeof today, hash_of(7, 30));
-    value(asked);
-    printf("house 7, quarter 30: place %u, slot %u, %u reads\n", BCF_ASK_PLACE(asked),
-           BCF_ASK_SLOT(asked), BCF_ASK_READS(asked));
-    asked = bcf_ask(today, sizeof today, hash_of(99, 30));
+    uint64_t asked = bcf_ask(today, sizeof today, hash_of(99, 30));
     value(asked);
     printf("house 99, quarter 30: place %u\n", BCF_ASK_PLACE(asked));
-
-    value(bcf_insert(today, sizeof today, hash_of(7, 30)));
-    uint64_t counted = bcf_count(today, sizeof today, hash_of(7, 30));
-    value(counted);
-    asked = bcf_ask(today, sizeof today, hash_of(7, 30));
-    value(asked);
-    printf("filed twice: %u copies, %u of them where the ask ended\n", BCF_COUNT_COPIES(counted),
-           BCF_ASK_COPIES(asked));
-    value(bcf_delete(today, sizeof today, hash_of(7, 30)));
-    value(bcf_delete(today, sizeof today, hash_of(7, 30)));
-    printf("taken out a third time: %u\n",
-           BCF_NUMBER(bcf_delete(today, sizeof today, hash_of(7, 30))));
-
+    try_reading(today, hash_of(7, 30));
     print_tail("today", today);
 
     /* The targets may hold any bytes. */

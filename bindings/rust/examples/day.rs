@@ -1,6 +1,6 @@
-//! A day of readings: 96 quarter hours of 20 houses are filed, asked for, taken out, moved to the
-//! old form and back, and merged with another day, a house's day is asked for in one row, and lines
-//! of an occupancy page are printed. Prints the same as the example in C.
+//! A day of readings: 96 quarter hours of 20 houses are filed, walked, asked for, taken out, moved
+//! to the old form and back, and merged with another day, a house's day is asked for in one row,
+//! and lines of an occupancy page are printed. Prints the same as the example in C.
 
 use breadcrumb::{Changed, Entry, Image, Place, Refusal, Tail};
 
@@ -38,12 +38,13 @@ fn print_tail<Bytes: AsRef<[u8]>>(name: &str, image: &Image<Bytes>) -> Result<()
     Ok(())
 }
 
-/// Walks the pages of an image.
+/// Walks the pages of an image, each of which brings the change count that the walk began with.
 fn list<Bytes: AsRef<[u8]>>(name: &str, image: &Image<Bytes>) -> Result<(), Refusal> {
+    let changes = image.changes()?;
     let (mut next, mut members, mut last, mut pages) = (0, 0, 0, 0);
     while next < 8 * B as u64 {
         let mut out = [0; 100];
-        let page = image.page(next, &mut out)?;
+        let page = image.page(next, changes, &mut out)?;
         members += page.how_many;
         last = out[..page.how_many].last().copied().unwrap_or(last);
         next = page.next;
@@ -61,6 +62,36 @@ fn place(place: Place) -> (u64, u64) {
         Place::First(slot) => (2, slot),
         Place::Second(slot) => (3, slot),
     }
+}
+
+/// Files a reading between two pages of a walk, which must then begin anew.
+fn file_between_pages(image: &mut Image, hash: u64) -> Result<(), Refusal> {
+    let mut out = [0; 100];
+    let changes = image.changes()?;
+    let next = image.page(0, changes, &mut out)?.next;
+    image.insert(hash)?;
+    if image.page(next, changes, &mut out) == Err(Refusal::Changed) {
+        println!("filed between two pages, the second is refused: 14");
+    }
+    list("walked anew", image)
+}
+
+/// Asks for one reading, files it again in the middle of a walk, and takes it out.
+fn try_reading(image: &mut Image, hash: u64) -> Result<(), Refusal> {
+    let asked = image.ask(hash)?;
+    let (number, slot) = place(asked.place);
+    let reads = asked.reads;
+    println!("house 7, quarter 30: place {number}, slot {slot}, {reads} reads");
+    file_between_pages(image, hash)?;
+    let copies = image.count(hash)?.copies;
+    let there = image.ask(hash)?.copies;
+    println!("filed twice: {copies} copies, {there} of them where the ask ended");
+    image.delete(hash)?;
+    image.delete(hash)?;
+    if image.delete(hash) == Err(Refusal::Absent) {
+        println!("taken out a third time: 5");
+    }
+    Ok(())
 }
 
 /// All quarter hours of a house in one row.
@@ -88,23 +119,9 @@ fn main() -> Result<(), Refusal> {
     let tomorrow = file_day(QUARTERS)?;
     list("today", &today)?;
 
-    let asked = today.ask(hash_of(7, 30))?;
-    let (number, slot) = place(asked.place);
-    let reads = asked.reads;
-    println!("house 7, quarter 30: place {number}, slot {slot}, {reads} reads");
     let (number, _) = place(today.ask(hash_of(99, 30))?.place);
     println!("house 99, quarter 30: place {number}");
-
-    today.insert(hash_of(7, 30))?;
-    let copies = today.count(hash_of(7, 30))?.copies;
-    let there = today.ask(hash_of(7, 30))?.copies;
-    println!("filed twice: {copies} copies, {there} of them where the ask ended");
-    today.delete(hash_of(7, 30))?;
-    today.delete(hash_of(7, 30))?;
-    if today.delete(hash_of(7, 30)) == Err(Refusal::Absent) {
-        println!("taken out a third time: 5");
-    }
-
+    try_reading(&mut today, hash_of(7, 30))?;
     print_tail("today", &today)?;
 
     let old = today.detach()?;

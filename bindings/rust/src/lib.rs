@@ -14,6 +14,9 @@
 //! ```
 
 pub mod packed;
+mod walk;
+
+pub use walk::{Over, Walk};
 
 use std::fmt;
 
@@ -59,6 +62,9 @@ pub enum Refusal {
     Miscounted,
     /// 13: the change count is at its top, 2^64 - 1.
     Spent,
+    /// 14: the change count that a page brought is not the image's, which has changed since the
+    /// walk began: begin anew.
+    Changed,
     /// A number that this wrapper does not know, with its value.
     Other(u8, u64),
 }
@@ -78,6 +84,7 @@ impl fmt::Display for Refusal {
             Refusal::BadTail => write!(f, "11: the tail is bad"),
             Refusal::Miscounted => write!(f, "12: the total is not that of the members"),
             Refusal::Spent => write!(f, "13: the change count is at its top"),
+            Refusal::Changed => write!(f, "14: the image has changed since the walk began"),
             Refusal::Other(number, value) => write!(f, "{number}: {value}"),
         }
     }
@@ -189,6 +196,7 @@ fn unpack(answer: u64) -> Result<u64, Refusal> {
         11 => Refusal::BadTail,
         12 => Refusal::Miscounted,
         13 => Refusal::Spent,
+        14 => Refusal::Changed,
         _ => Refusal::Other(number, value),
     })
 }
@@ -326,30 +334,29 @@ impl<Bytes: AsRef<[u8]>> Image<Bytes> {
         })
     }
 
-    /// Lists whole front buckets from `start` on as far as they fit.
-    pub fn page(&self, start: u64, out: &mut [u64]) -> Result<Paged, Refusal> {
-        let value = unpack(packed::page(self.bytes(), start, out))?;
+    /// Lists whole front buckets from `start` on as far as they fit. `changes` is the change count
+    /// that the walk began with. A `Walk` does this for all members.
+    pub fn page(&self, start: u64, changes: u64, out: &mut [u64]) -> Result<Paged, Refusal> {
+        let value = unpack(packed::page(self.bytes(), start, changes, out))?;
         Ok(Paged {
             how_many: (value & 0xFFFFFFFF) as usize,
             next: value >> 32,
         })
     }
 
+    /// Begins a walk over the members. It notices when the image changes before its end.
+    pub fn walk(&self) -> Result<Walk, Refusal> {
+        self.changes().map(Walk::new)
+    }
+
     /// Every fingerprint, ascending, each as often as it is a member.
     pub fn list(&self) -> Result<Vec<u64>, Refusal> {
-        let b = self.bytes().len().saturating_sub(length(0)) / 576;
-        let fronts = 8 * b as u64;
-        let mut all = Vec::new();
-        let mut out = [0; 1024];
-        let mut next = 0;
-        loop {
-            let paged = self.page(next, &mut out)?;
-            all.extend_from_slice(&out[..paged.how_many]);
-            next = paged.next;
-            if next >= fronts {
-                return Ok(all);
-            }
-        }
+        self.walk()?.over(self).collect()
+    }
+
+    /// The number of front buckets that an image of this length has.
+    fn fronts(&self) -> u64 {
+        8 * (self.bytes().len().saturating_sub(length(0)) / 576) as u64
     }
 
     /// Writes how full the 24 front buckets from 24 × `page` on are, a line of 42 bytes each: the

@@ -18,6 +18,7 @@ unsafe extern "C" {
         image: *const u8,
         length: usize,
         start: u64,
+        changes: u64,
         out: *mut u64,
         out_length: usize,
     ) -> u64;
@@ -81,13 +82,14 @@ pub fn count(image: &[u8], hash: u64) -> u64 {
     unsafe { bcf_count(image.as_ptr(), image.len(), hash) }
 }
 
-/// Value: how many + 2^32 × next.
-pub fn page(image: &[u8], start: u64, out: &mut [u64]) -> u64 {
+/// Value: how many + 2^32 × next. `changes` is the change count that the walk began with.
+pub fn page(image: &[u8], start: u64, changes: u64, out: &mut [u64]) -> u64 {
     unsafe {
         bcf_page(
             image.as_ptr(),
             image.len(),
             start,
+            changes,
             out.as_mut_ptr(),
             out.len(),
         )

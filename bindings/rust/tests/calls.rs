@@ -108,14 +108,14 @@ fn refusals() {
     assert_eq!(image.ask(0), Err(Refusal::Unsound(0)));
     image.fresh().unwrap();
     assert_eq!(image.delete(0), Err(Refusal::Absent));
-    assert_eq!(image.page(9, &mut []), Err(Refusal::PastTheEnd));
+    assert_eq!(image.page(9, 0, &mut []), Err(Refusal::PastTheEnd));
     image.insert(0).unwrap();
-    assert_eq!(image.page(0, &mut []), Err(Refusal::DoesNotFit));
+    assert_eq!(image.page(0, 1, &mut []), Err(Refusal::DoesNotFit));
     let page = Paged {
         how_many: 0,
         next: 8,
     };
-    assert_eq!(image.page(1, &mut []), Ok(page));
+    assert_eq!(image.page(1, 1, &mut []), Ok(page));
     // Backyard bucket 0 gets one member before its turn, crumb 1.
     lent[64 * 8..64 * 8 + 8].copy_from_slice(&((1u64 << 37) - 2).to_le_bytes());
     lent[64 * 8 + 52] = 1;
@@ -125,6 +125,54 @@ fn refusals() {
     assert_eq!(target.merge(&early, &early), Err(Refusal::Early(8)));
     let other = Image::new(2).unwrap();
     assert_eq!(target.merge(&early, &other), Err(Refusal::LengthsDiffer));
+}
+
+/// The refusal of a page with one entry of output, which must keep it.
+fn refused_page(image: &Image, start: u64, changes: u64) -> Refusal {
+    let mut out = [7];
+    let refusal = image.page(start, changes, &mut out).unwrap_err();
+    assert_eq!(out, [7]);
+    refusal
+}
+
+#[test]
+fn refused_pages() {
+    // All hold at first; then the first of 1, 11, 14, 6, 3, 7 is mended, one by one.
+    let image = holding([THIRTEEN, THIRTEEN]);
+    let unsound = with_unsound(&image, 13);
+    let bad = with_tail(&unsound, 16, 0);
+    let short = Image::over(bad.bytes()[1..].to_vec());
+    assert_eq!(refused_page(&short, 25, 9), Refusal::WrongLength);
+    assert_eq!(refused_page(&bad, 25, 9), Refusal::BadTail);
+    assert_eq!(refused_page(&unsound, 25, 9), Refusal::Changed);
+    assert_eq!(refused_page(&unsound, 25, 2), Refusal::PastTheEnd);
+    assert_eq!(refused_page(&unsound, 13, 2), Refusal::Unsound(13));
+    assert_eq!(refused_page(&image, 13, 2), Refusal::DoesNotFit);
+    // Later ones alone do not come before 14 either.
+    assert_eq!(refused_page(&unsound, 13, 9), Refusal::Changed);
+    assert_eq!(refused_page(&image, 13, 9), Refusal::Changed);
+}
+
+#[test]
+fn change_counts_of_a_page() {
+    let image = holding([THIRTEEN, THIRTEEN]);
+    for count in [0, 1, 2, 0xFFFFFFFF, 1 << 32, 1 << 63, u64::MAX] {
+        let image = with_changes(&image, count);
+        let mut out = [7; 3];
+        let page = image.page(0, count, &mut out).unwrap();
+        assert_eq!((page.how_many, page.next, out[2]), (2, 24, 7));
+        // Every bit of the count matters, also where nothing is left to list.
+        for bit in 0..64 {
+            assert_eq!(
+                refused_page(&image, 0, count ^ (1 << bit)),
+                Refusal::Changed
+            );
+            assert_eq!(
+                refused_page(&image, 24, count ^ (1 << bit)),
+                Refusal::Changed
+            );
+        }
+    }
 }
 
 /// An entry that holds 7 besides its hash.
@@ -414,7 +462,7 @@ fn bad_tails() {
         assert_eq!(bad.total(), Err(Refusal::BadTail));
         assert_eq!(bad.changes(), Err(Refusal::BadTail));
         assert_eq!(bad.detach(), Err(Refusal::BadTail));
-        assert_eq!(bad.page(25, &mut []), Err(Refusal::BadTail));
+        assert_eq!(bad.page(25, 0, &mut []), Err(Refusal::BadTail));
         assert_eq!(bad.occupancy(1, &mut []), Err(Refusal::BadTail));
         assert_eq!(bad.row(&mut []), Err(Refusal::BadTail));
         let mut descending = [u64::MAX, THIRTEEN].map(told_before);
@@ -540,4 +588,8 @@ fn texts() {
         "12: the total is not that of the members"
     );
     assert_eq!(text(Refusal::Spent), "13: the change count is at its top");
+    assert_eq!(
+        text(Refusal::Changed),
+        "14: the image has changed since the walk began"
+    );
 }

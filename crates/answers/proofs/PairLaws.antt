@@ -8,7 +8,7 @@ use Rattle.machine.specs.Machine.{Change}
 use Rattle.answers.specs.Answers.{refusal, changeOf, answerOf}
 use Rattle.answers.specs.declared.Refusal.{Refusal}
 use Rattle.answers.specs.declared.ChangeResult.{ChangeResult}
-use Rattle.answers.specs.declared.Refusal.the-variants.{WrongLength, LengthsDiffer, Unsound, Full, Absent, PastEnd, NoRoom, Early, Descending, BadTail, Miscounted, Spent}
+use Rattle.answers.specs.declared.Refusal.the-variants.{WrongLength, LengthsDiffer, Unsound, Full, Absent, PastEnd, NoRoom, Early, Descending, BadTail, Miscounted, Spent, Changed}
 use Rattle.answers.specs.Pairs.{saidOf, itself, answerValue}
 use Rattle.answers.specs.declared.pairs.Said.{Said}
 
@@ -26,6 +26,7 @@ refusal-number A Descending = omega arith
 refusal-number A BadTail = omega arith
 refusal-number A Miscounted = omega arith
 refusal-number A Spent = omega arith
+refusal-number A Changed = omega arith
 
 -- the pair of a result whose answer is mapped is the pair by the mapped value
 pub said-mapped : {A C : Type 0} (v : C → ℕ) (f : A → C) (m : Result A) → saidOf v (andThen m (λ a. accepted (f a))) ≡ saidOf (λ a. v (f a)) m

@@ -14,7 +14,7 @@ use Rattle.form.specs.Tails.{Tail}
 use Rattle.form.specs.Calls as F
 use Rattle.form.specs.Moves.{attachOf, detachOf}
 use Rattle.answers.specs.declared.Refusal.{Refusal}
-use Rattle.answers.specs.declared.Refusal.the-variants.{WrongLength, LengthsDiffer, Unsound, Full, Absent, PastEnd, NoRoom, Early, Descending, BadTail, Miscounted, Spent}
+use Rattle.answers.specs.declared.Refusal.the-variants.{WrongLength, LengthsDiffer, Unsound, Full, Absent, PastEnd, NoRoom, Early, Descending, BadTail, Miscounted, Spent, Changed}
 use Rattle.answers.specs.declared.Outcome.{Outcome}
 use Rattle.answers.specs.declared.Outcome.the-variants as D
 use Rattle.answers.specs.declared.ChangeResult.{ChangeResult}
@@ -44,6 +44,7 @@ numbered Descending = (10, 0)
 numbered BadTail = (11, 0)
 numbered Miscounted = (12, 0)
 numbered Spent = (13, 0)
+numbered Changed = (14, 0)
 
 abbrev pub refusal : {A : Type 0} → Refusal → Result A
 refusal r = refused (numbered r .0) (numbered r .1)
@@ -105,9 +106,9 @@ pub record Writes (m : Result Run) (old : List ℕ) (r : PageResult) (new : List
   pub answer : pagedOf r ≡ extentOf m
   pub bytes : new ≡ outputOf m old
 
--- a page of an image from bucket s into the output `old`
-abbrev pub Pages : List ℕ → ℕ → List ℕ → PageResult → List ℕ → Type 0
-Pages img s old r new = Writes (F.pageOf known img s (length old)) old r new
+-- a page of an image from bucket s, with change count n, into the output `old`
+abbrev pub Pages : List ℕ → ℕ → ℕ → List ℕ → PageResult → List ℕ → Type 0
+Pages img s n old r new = Writes (F.pageOf known img s n (length old)) old r new
 
 -- what the tail of an image tells
 abbrev pub tailedOf : TailResult → Result Tail

@@ -4,7 +4,8 @@
 pub mod pairs;
 
 // "The numbers a caller may get": 1 to 8 in this order; then 10, a row whose front buckets descend; 11, a bad tail; 12, a total that differs from
-// the members or would leave its range; 13, a change count at its top. An unsound bucket and one with a member before its turn have a table number.
+// the members or would leave its range; 13, a change count at its top; 14, a page with another change count than the image's. An unsound bucket and one
+// with a member before its turn have a table number.
 pub enum Refusal {
     WrongLength,
     LengthsDiffer,
@@ -18,6 +19,7 @@ pub enum Refusal {
     BadTail,
     Miscounted,
     Spent,
+    Changed,
 }
 
 // What a fresh, a check, a merge, a move or an occupancy page gives.

@@ -65,6 +65,10 @@ pub fn refused(why: Refusal) -> Said
             number: 13,
             value: 0,
         },
+        Refusal::Changed => Said {
+            number: 14,
+            value: 0,
+        },
     }
 }
 

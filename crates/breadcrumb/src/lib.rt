@@ -66,11 +66,11 @@ pub fn count(image: &[u8], hash: u64) -> CountResult
     lookup::count::count(image, hash)
 }
 
-// The members from front bucket `start` on into `out`: how many, and the next bucket.
-pub fn page(image: &[u8], start: usize, out: &mut [u64]) -> PageResult
-    ensures { λ r. ⌜ Pages (now (image .entry)) start (now (out .entry)) r (now (out .exit)) ⌝ }
+// The members from front bucket `start` on into `out`: how many, and the next bucket. `changes` is "the change count that the walk began with".
+pub fn page(image: &[u8], start: usize, changes: u64, out: &mut [u64]) -> PageResult
+    ensures { λ r. ⌜ Pages (now (image .entry)) start changes (now (out .entry)) r (now (out .exit)) ⌝ }
 {
-    paging::page::page(image, start, out)
+    paging::page::page(image, start, changes, out)
 }
 
 // The occupancy of 24 front buckets from 24 × `page` on as text, into the start of `out`.

@@ -35,7 +35,7 @@ use Rattle.machine.proofs.OccupancyLaws.{line-members}
 use Rattle.machine.proofs.RowLaws.{of-search, row-total, row-refused}
 use Rattle.machine.proofs.RoomLaws.{frontAt-room, backAt-room, backyard-room, run-count, found-room}
 use Rattle.form.specs.Tails.{Tail, Header, body, rest, tailIn, markOf, slots, members, raised, lowered, headerBy, headed, opened, top}
-use Rattle.form.specs.Calls.{changedBy, checkedBy, mergedBy, freshOf, insertOf, deleteOf, askOf, countOf, rowOf, pageOf, occupancyOf, checkOf, tailOf, mergeSizedOf, mergeOf}
+use Rattle.form.specs.Calls.{changedBy, checkedBy, mergedBy, unchanged, freshOf, insertOf, deleteOf, askOf, countOf, rowOf, pageOf, occupancyOf, checkOf, tailOf, mergeSizedOf, mergeOf}
 use Rattle.form.specs.Moves.{attachOf, detachOf}
 use Rattle.answers.specs.Pairs.{answerValue}
 use Rattle.capi.specs.Packing.{Within, taken, barred, nothing, placeWord, askWord, countWord, runWord, rowWord}
@@ -416,9 +416,11 @@ row-fits img ks small =
     within-cond (descends 0 (map (frontOf B) ks)) _ _ (λ _. bar 10 0 (omega arith) (omega arith)) (λ _.
     headed-fits B img _ (row-body (body img) ks small)))
 
-pub page-fits : (img : List ℕ) (start room : ℕ) → Within runWord cap (pageOf known img start room)
-unfolding pageOf
-page-fits img s room = opened-fits img _ (λ B p l. page-body (body img) s room)
+pub page-fits : (img : List ℕ) (start changes room : ℕ) → Within runWord cap (pageOf known img start changes room)
+unfolding pageOf unchanged
+page-fits img s n room =
+    opened-fits img _ (λ B p l.
+    within-cond (eqb (tailIn (rest img) .changes) n) _ _ (λ _. page-body (body img) s room) (λ _. bar 14 0 (omega arith) (omega arith)))
 
 pub occupancy-fits : (img : List ℕ) (p room : ℕ) → Within nothing cap (occupancyOf known img p room)
 unfolding occupancyOf

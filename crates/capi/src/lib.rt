@@ -104,13 +104,13 @@ pub extern "C" fn bcf_count(image: &[u8], hash: u64) -> u64
     packed(counted(count(image, hash)))
 }
 
-// The members of the longest run of whole buckets from `start` that fits into `out`.
+// The members of the longest run of whole buckets from `start` that fits into `out`, where the change count is the image's.
 #[no_mangle]
-pub extern "C" fn bcf_page(image: &[u8], start: u64, out: &mut [u64]) -> u64
-    ensures { λ r. ⌜ r ≡ P.packed P.runWord (pageOf known (now (image .entry)) start (length (now (out .entry)))) ⌝ }
-    ensures { λ r. ⌜ now (out .exit) ≡ outputOf (pageOf known (now (image .entry)) start (length (now (out .entry)))) (now (out .entry)) ⌝ }
+pub extern "C" fn bcf_page(image: &[u8], start: u64, changes: u64, out: &mut [u64]) -> u64
+    ensures { λ r. ⌜ r ≡ P.packed P.runWord (pageOf known (now (image .entry)) start changes (length (now (out .entry)))) ⌝ }
+    ensures { λ r. ⌜ now (out .exit) ≡ outputOf (pageOf known (now (image .entry)) start changes (length (now (out .entry)))) (now (out .entry)) ⌝ }
 {
-    packed(paged(page(image, start as usize, out)))
+    packed(paged(page(image, start as usize, changes, out)))
 }
 
 // The occupancy of 24 front buckets as text.

@@ -36,8 +36,8 @@ performed {img} (inserted k r new i) = (ap number (i .answer) ∙ number-then (i
 performed {img} (deleted k r new d) = (ap number (d .answer) ∙ number-then (deleteOf known img k) (λ (c : M.Change). c .answer), d .bytes)
 performed (asked k r e) = (ap number e, refl)
 performed (counted k r e) = (ap number e, refl)
-performed {img} (paged s old r new p) =
-    (ap number (p .answer) ∙ number-then (pageOf known img s (length old)) (λ (r : Run). (length (r .entries), r .next)), refl)
+performed {img} (paged s changes old r new p) =
+    (ap number (p .answer) ∙ number-then (pageOf known img s changes (length old)) (λ (r : Run). (length (r .entries), r .next)), refl)
 
 -- ---- a whole history
 

@@ -16,14 +16,14 @@ use Rattle.history.specs.Histories as H
 use Rattle.history.specs.Histories.{Call, History, bytesAfter}
 use Rattle.history.specs.Walks as W
 use Rattle.catalogue.specs.Runs.{Performed, inserted, deleted, asked, counted, paged, Happened}
-use Rattle.catalogue.specs.Walks.{Walk, begun, continued, meanwhile, FullWalk, ended, since, Alters, entriesOf, nextOf}
+use Rattle.catalogue.specs.Walks.{Walk, begun, continued, meanwhile, FullWalk, entriesOf, nextOf}
 use Rattle.machine.proofs.AcceptedLaws.{same-answer}
-use Rattle.catalogue.proofs.ToldRuns.{refusal-never, performed, kept}
+use Rattle.catalogue.proofs.ToldRuns.{refusal-never, kept}
 
--- on the machine, a page from s into so much room gives these entries and this next bucket
-pub record Gives (img : List ℕ) (s room : ℕ) (gs : List ℕ) (next : ℕ) : Type 0 where
+-- on the machine, a page from s with change count n into so much room gives these entries and this next bucket
+pub record Gives (img : List ℕ) (s n room : ℕ) (gs : List ℕ) (next : ℕ) : Type 0 where
   pub run : Run
-  pub page : pageOf known img s room ≡ accepted run
+  pub page : pageOf known img s n room ≡ accepted run
   pub entries : gs ≡ run .entries
   pub goes-on : next ≡ run .next
 
@@ -33,7 +33,7 @@ GivesIf img (H.insert k) gs next = Unit {0}
 GivesIf img (H.delete k) gs next = Unit {0}
 GivesIf img (H.ask k) gs next = Unit {0}
 GivesIf img (H.count k) gs next = Unit {0}
-GivesIf img (H.page s room) gs next = Gives img s room gs next
+GivesIf img (H.page s n room) gs next = Gives img s n room gs next
 
 -- a run whose extent is accepted is accepted
 extent-accepted : (m : Result Run) (n next : ℕ) → accepted (n, next) ≡ extentOf m → (r : Run) × (m ≡ accepted r) × (n ≡ length (r .entries)) × (next ≡ r .next)
@@ -52,34 +52,26 @@ page-wrote (inserted k r new p) e = tt
 page-wrote (deleted k r new p) e = tt
 page-wrote (asked k r p) e = tt
 page-wrote (counted k r p) e = tt
-page-wrote (paged s old (G.Refused x) out p) e = absurd (refusal-never (ℕ × ℕ) x e)
-page-wrote {img} (paged s old (G.Accepted n next) out p) e =
-    let x = extent-accepted (pageOf known img s (length old)) n next (p .answer) in
+page-wrote (paged s changes old (G.Refused x) out p) e = absurd (refusal-never (ℕ × ℕ) x e)
+page-wrote {img} (paged s changes old (G.Accepted n next) out p) e =
+    let x = extent-accepted (pageOf known img s changes (length old)) n next (p .answer) in
     let wrote : out ≡ x .0 .entries ++ drop (length (x .0 .entries)) old = cc (p .bytes, x .1) in
     record { run = x .0; page = x .1; entries = first-entries out (x .0 .entries) (drop (length (x .0 .entries)) old) n wrote (x .2); goes-on = x .3 }
 
--- a call that altered nothing, in the history's words
-unaltered : (h : History) {img new : List ℕ} {n : ℕ} (c : Call) → img ≡ bytesAfter known h → Performed img c n new → (Alters c n → ⊥) → W.Alters known h c → ⊥
-unaltered h (H.insert k) e p quiet a = quiet (performed p .0 ∙ rw e a)
-unaltered h (H.delete k) e p quiet a = quiet (performed p .0 ∙ rw e a)
-unaltered h (H.ask k) e p quiet a = a
-unaltered h (H.count k) e p quiet a = a
-unaltered h (H.page s room) e p quiet a = a
-
 -- a page on the image that a run left is a page after its history
-page-after : {h : History} {img : List ℕ} (run : Happened h img) {s room : ℕ} {gs : List ℕ} {next : ℕ} (g : Gives img s room gs next)
-    → pageOf known (bytesAfter known h) s room ≡ accepted (g .run)
-page-after run {s} {room} g = ap (λ (i : List ℕ). pageOf known i s room) (sym (kept run .1)) ∙ g .page
+page-after : {h : History} {img : List ℕ} (run : Happened h img) {s n room : ℕ} {gs : List ℕ} {next : ℕ} (g : Gives img s n room gs next)
+    → pageOf known (bytesAfter known h) s n room ≡ accepted (g .run)
+page-after run {s} {n} {room} g = ap (λ (i : List ℕ). pageOf known i s n room) (sym (kept run .1)) ∙ g .page
 
-walked : {h : History} {img : List ℕ} {run : Happened h img} {N : ℕ → ℕ} {gs : List ℕ} {s : ℕ} → Walk h img run N gs s → W.Walk known layout1 h N gs s
+walked : {n : ℕ} {h : History} {img : List ℕ} {run : Happened h img} {N : ℕ → ℕ} {gs : List ℕ} {s : ℕ} → Walk n h img run N gs s
+    → W.Walk known layout1 n h N gs s
 walked (begun h img new run room p) =
     let g = page-wrote p refl in
     rw (g .entries, g .goes-on) (W.begun h room (g .run) (page-after run g))
 walked (continued h img new run N gs s room p w) =
     let g = page-wrote p refl in
     rw (g .entries, g .goes-on) (W.continued h N gs s room (g .run) (walked w) (page-after run g))
-walked (meanwhile h img new run N gs s c n fits p w quiet) = W.meanwhile h N gs s c (walked w) (unaltered h c (kept run .1) p quiet)
+walked (meanwhile h img new run N gs s c m fits p w) = W.meanwhile h N gs s c (walked w)
 
-pub walk-told : {h : History} {img : List ℕ} {run : Happened h img} {N : ℕ → ℕ} {gs : List ℕ} → FullWalk h img run N gs → W.FullWalk known layout1 h N gs
-walk-told (ended h img run N gs w) = W.ended h N gs (walked w)
-walk-told (since h img new run N gs c n fits p w) = W.since h N gs c (walk-told w)
+pub walk-told : {h : History} {img : List ℕ} (run : Happened h img) {N : ℕ → ℕ} {gs : List ℕ} → FullWalk run N gs → W.FullWalk known layout1 h N gs
+walk-told run w = (w .0, walked (w .1))

@@ -1,5 +1,5 @@
 -- The contracts and the history theorem joined: demand 3 holds of the calls themselves, and what C-14 says of the total (`demand`); inserts and deletes
--- get 13 exactly at the top count (`calls-spend`). Each backyard member in the image that they left leads home (`calls-lead-home`), the copies of an ask
+-- get 13 exactly at the top count (`calls-spend`), pages 14 exactly for another count than the image's (`calls-notice`). Each backyard member in the image that they left leads home (`calls-lead-home`), the copies of an ask
 -- tell of the ledger (`calls-tell-copies`), and its occupancy pages tell the ledger (`calls-tell-occupancy`, `calls-show-occupancy`).
 use mathlib.Core.Path.{_≡_, refl, sym, _∙_, ap}
 use mathlib.Core.Logic.{_↔_, _⊎_, inl, inr, ⊎-elim}
@@ -39,7 +39,7 @@ use Rattle.history.specs.Refusals.{due}
 use Rattle.history.specs.Demand.{Holds}
 use Rattle.history.specs.Copies.{CopiesTold}
 use Rattle.history.specs.Occupancies.{filedIn, pageSaid, Shows}
-use Rattle.history.proofs.Theorem.{known-fit, demand3-known, check-accepts, merge-refused-only-full, no-tail-number, spent-at-top}
+use Rattle.history.proofs.Theorem.{known-fit, demand3-known, check-accepts, merge-refused-only-full, no-tail-number, spent-at-top, stale-refused}
 use Rattle.history.proofs.Theorem.{members-lead-home, copies-told, occupancy-said, page-long, line-shows}
 use Rattle.catalogue.specs.Runs.{Performed, Happened}
 use Rattle.catalogue.specs.Delivery.{Demand, timesFiled}
@@ -141,7 +141,7 @@ demand h img happened =
       refusals = next-due happened;
       counts = count-tells happened;
       asks = ask-tells happened;
-      walks = λ N gs w. holds happened .walks N gs (walk-told w);
+      walks = λ N gs w. holds happened .walks N gs (walk-told happened w);
       tails = tail-tells happened;
       sums = holds happened .sums;
       members = rw (left happened) (holds happened .members);
@@ -157,6 +157,12 @@ pub calls-spend : {h : History} {img : List ℕ} → Happened h img → (k n : �
 calls-spend {h} happened k n new l =
     let t = spent-at-top known known-fit h (started happened) k l in
     ((λ d. rw (performed d .0, left happened) (t .0)), λ d. rw (performed d .0, left happened) (t .1))
+
+-- and a page of that image gets 14 exactly where the change count that it brings is not the image's
+pub calls-notice : {h : History} {img : List ℕ} → Happened h img → (s changes room n : ℕ) (new : List ℕ)
+    → Performed img (H.page s changes room) n new → (n ≡ 14) ↔ (filed known h .changes ≡ changes → ⊥)
+calls-notice {h} happened s changes room n new d =
+    rw (performed d .0, left happened) (stale-refused known known-fit h (started happened) s changes room)
 
 -- and in the image that the calls left, each backyard member leads by its crumb back to a front bucket that is full, none larger than it
 pub calls-lead-home : {h : History} {img : List ℕ} → Happened h img → AllLeadHome layout1 (blocks h) (body img)

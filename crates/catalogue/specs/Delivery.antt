@@ -45,7 +45,7 @@ pub record Delivers {h : History} {img : List ℕ} (run : Happened h img) : Type
       × ((a .place ≡ P.Nowhere → ⊥) ↔ (0 < timesFiled h k))
       × ((1 < a .reads) ↔ (layout1 .frontSlots ≤ smaller layout1 (ledger known layout1 h) (frontOf (blocks h) k) (keyOf layout1 k)))
   -- the entries that the pages of a full walk wrote, joined in order, are every g N(g) times, ascending
-  pub walks : (N : ℕ → ℕ) (gs : List ℕ) → FullWalk h img run N gs → T (ascending gs) × ((g : ℕ) → copies g gs ≡ N g)
+  pub walks : (N : ℕ → ℕ) (gs : List ℕ) → FullWalk run N gs → T (ascending gs) × ((g : ℕ) → copies g gs ≡ N g)
   -- the tail is told: the total is "accepted inserts minus deletes, both sides added at a merge", the change count how many of both since the start
   pub tails : (r : TailResult) → tailedOf r ≡ tailOf known img
       → (t : Tail) × (r ≡ S.Accepted t) × (t .total ≡ filed known h .total) × (t .changes ≡ filed known h .changes)

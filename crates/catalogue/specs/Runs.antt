@@ -22,7 +22,8 @@ pub data Performed (img : List ℕ) : Call → ℕ → List ℕ → Type 0 where
   deleted : (k : ℕ) (r : ChangeResult) (new : List ℕ) → Deletes img k r new → Performed img (H.delete k) (number (changeOf r)) new
   asked : (k : ℕ) (r : AskResult) → askedOf r ≡ askOf known img k → Performed img (H.ask k) (number (askedOf r)) img
   counted : (k : ℕ) (r : CountResult) → countedOf r ≡ countOf known img k → Performed img (H.count k) (number (countedOf r)) img
-  paged : (s : ℕ) (old : List ℕ) (r : PageResult) (new : List ℕ) → Pages img s old r new → Performed img (H.page s (length old)) (number (pagedOf r)) img
+  paged : (s changes : ℕ) (old : List ℕ) (r : PageResult) (new : List ℕ) → Pages img s changes old r new
+      → Performed img (H.page s changes (length old)) (number (pagedOf r)) img
 
 -- a start that was accepted, then calls; the image that they left. A fresh is of layout 1
 pub data Happened : History → List ℕ → Type 0 where

@@ -24,7 +24,7 @@ use Rattle.machine.specs.Calls as M
 use Rattle.machine.specs.Rows as R
 use Rattle.machine.specs.OccupancyPages as O
 use Rattle.form.specs.Tails.{body, rest, tailIn, tailBytes, markOf, started, top, slots, members, raised, lowered, headed, opened}
-use Rattle.form.specs.Calls.{changedBy, checkedBy, mergedBy, freshOf, insertOf, deleteOf, askOf, countOf, rowOf, pageOf, occupancyOf, checkOf, tailOf, mergeSizedOf, mergeOf}
+use Rattle.form.specs.Calls.{changedBy, checkedBy, mergedBy, unchanged, freshOf, insertOf, deleteOf, askOf, countOf, rowOf, pageOf, occupancyOf, checkOf, tailOf, mergeSizedOf, mergeOf}
 use Rattle.form.specs.Moves.{attachOf, detachOf}
 
 -- ---- images
@@ -131,12 +131,15 @@ table =
     ∷ (number (rowOf known (form zeros 2 0 0) (0 ∷ 2 ^ 63 ∷ [])), 11)
     ∷ (number (rowOf known (form zeros 1 0 0) (0 ∷ 2 ^ 63 ∷ [])), 3)
     ∷ (number (rowOf known (form empty 1 0 0) (0 ∷ 2 ^ 63 ∷ [])), 0)
-    -- page: 11, 6, 3, 7
-    ∷ (number (pageOf known (form zeros 2 0 0) 9 0), 11)
-    ∷ (number (pageOf known (form zeros 1 0 0) 9 0), 6)
-    ∷ (number (pageOf known (form zeros 1 0 0) 8 0), 0)
-    ∷ (number (pageOf known (form zeros 1 0 0) 7 0), 3)
-    ∷ (number (pageOf known (form single 1 1 0) 0 0), 7)
+    -- page: 11, 14, 6, 3, 7
+    ∷ (number (pageOf known (form zeros 2 0 5) 9 4 0), 11)
+    ∷ (number (pageOf known (form zeros 1 0 5) 9 4 0), 14)
+    ∷ (number (pageOf known (form zeros 1 0 5) 8 6 0), 14)
+    ∷ (number (pageOf known (form zeros 1 0 5) 9 5 0), 6)
+    ∷ (number (pageOf known (form zeros 1 0 5) 8 5 0), 0)
+    ∷ (number (pageOf known (form zeros 1 0 5) 7 5 0), 3)
+    ∷ (number (pageOf known (form single 1 1 top) 0 0 0), 14)
+    ∷ (number (pageOf known (form single 1 1 top) 0 top 0), 7)
     -- occupancy: 11, 6, 3, 7
     ∷ (number (occupancyOf known (form zeros 2 0 0) 1 0), 11)
     ∷ (number (occupancyOf known (form zeros 1 0 0) 1 0), 6)
@@ -181,5 +184,5 @@ table =
     ∷ []
 
 pub cases : map (λ (row : ℕ × ℕ). row .0) table ≡ map (λ (row : ℕ × ℕ). row .1) table
-unfolding table zeros empty single crowded hasty form spoilt target larger two totalIn changesIn imageIn body rest tailIn tailBytes markOf slots members raised lowered headed opened changedBy checkedBy mergedBy freshOf insertOf deleteOf askOf countOf rowOf pageOf occupancyOf checkOf tailOf mergeSizedOf mergeOf attachOf detachOf M.insertOf M.deleteOf M.askOf M.countOf M.pageOf R.asksOf R.rowOf O.occupancyOf O.printFrom O.linesFrom O.lineAt O.line O.column O.aligned O.bar O.blankLine taker takeIn insertAt deleteAt askAt countAt membersAt insertAll mergeFrom runFrom pageFrom unsoundFront unsoundBack allInTurn early checkSized has lengthOf sizeOf bucketAt put repeated frontAt backAt putFront putBack emptyImage given valid slotBytes frontBytes backBytes slotKeys frontMembers backMembers wordFrom minisFrom stride firstBucket firstCrumb secondBucket firstHome home frontOf tagOf miniOf keyOf fingerprint fronts backyards digits value spread grouped padded joined added removed copies slotOf foundIn largest atLeast ascending allZero bind
+unfolding table zeros empty single crowded hasty form spoilt target larger two totalIn changesIn imageIn body rest tailIn tailBytes markOf slots members raised lowered headed opened changedBy checkedBy mergedBy unchanged freshOf insertOf deleteOf askOf countOf rowOf pageOf occupancyOf checkOf tailOf mergeSizedOf mergeOf attachOf detachOf M.insertOf M.deleteOf M.askOf M.countOf M.pageOf R.asksOf R.rowOf O.occupancyOf O.printFrom O.linesFrom O.lineAt O.line O.column O.aligned O.bar O.blankLine taker takeIn insertAt deleteAt askAt countAt membersAt insertAll mergeFrom runFrom pageFrom unsoundFront unsoundBack allInTurn early checkSized has lengthOf sizeOf bucketAt put repeated frontAt backAt putFront putBack emptyImage given valid slotBytes frontBytes backBytes slotKeys frontMembers backMembers wordFrom minisFrom stride firstBucket firstCrumb secondBucket firstHome home frontOf tagOf miniOf keyOf fingerprint fronts backyards digits value spread grouped padded joined added removed copies slotOf foundIn largest atLeast ascending allZero bind
 cases = refl

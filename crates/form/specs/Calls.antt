@@ -1,5 +1,5 @@
 -- The calls on the form that C-14 gives an image: the length, the tail, then document 01's call on the body, then the tail's change.
--- Order of numbers: 1, 10, 2, 11, 13, then the body's own (6, 3 in reading order, 4, 5, 7, 8), and 12 after 4, 5 and 8.
+-- Order of numbers: 1, 10, 2, 11, 13, 14, then the body's own (6, 3 in reading order, 4, 5, 7, 8), and 12 after 4, 5 and 8.
 use Prim.Native.Nat.{ℕ, _+_}
 use mathlib.Core.Bool.{cond, _&&_}
 use mathlib.Core.List.{List, _++_, map}
@@ -41,6 +41,10 @@ mergedBy g h a b =
     andThen (mergeFrom (g .layout) (g .size) (fronts (g .size)) 0 a b (emptyImage (g .layout) (g .size))) λ c.
     accepted (c ++ tailBytes (g .number) (started (g .tail .total + h .tail .total)))
 
+-- a page that is `m` on the body, where the image's change count is still the n "that the walk began with": "a different count gets 14, tested after 11"
+unfoldable pub unchanged : ℕ → ℕ → Result Run → Result Run
+unchanged changes n m = cond (eqb changes n) m (refused 14 0)
+
 module _ (layouts : Numbering) where
   -- the image that a fresh of the layout with this number leaves
   unfoldable pub freshOf : ℕ → List ℕ → Result (List ℕ)
@@ -68,9 +72,9 @@ module _ (layouts : Numbering) where
       cond (descends 0 (map (frontOf B) ks)) (refused 10 0)
       (andThen (headed layouts B img) λ h. R.rowOf (h .layout) (body img) ks)
 
-  -- from bucket s, into an output with room for so many
-  unfoldable pub pageOf : List ℕ → ℕ → ℕ → Result Run
-  pageOf img s room = andThen (opened layouts img) λ h. M.pageOf (h .layout) (body img) s room
+  -- from bucket s, in a walk that began with change count n, into an output with room for so many
+  unfoldable pub pageOf : List ℕ → ℕ → ℕ → ℕ → Result Run
+  pageOf img s n room = andThen (opened layouts img) λ h. unchanged (h .tail .changes) n (M.pageOf (h .layout) (body img) s room)
 
   unfoldable pub occupancyOf : List ℕ → ℕ → ℕ → Result (List ℕ)
   occupancyOf img p room = andThen (opened layouts img) λ h. O.occupancyOf (h .layout) (body img) p room

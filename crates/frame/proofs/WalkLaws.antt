@@ -15,9 +15,10 @@ use Rattle.machine.specs.Calls as M
 use Rattle.machine.proofs.AcceptedLaws.{same-answer, andThen-accepted}
 use Rattle.machine.proofs.RoomLaws.{run-whole}
 use Rattle.form.specs.Tails.{Header, body, opened}
-use Rattle.form.specs.Calls.{pageOf}
+use Rattle.form.specs.Calls.{pageOf, tailOf}
 use Rattle.form.proofs.TailLaws.{length-body, headed-parts}
-use Rattle.frame.specs.Frames.{room}
+use Rattle.form.proofs.WalkLaws.{unchanged-accepted}
+use Rattle.frame.specs.Frames.{room, listOf}
 
 kept-run : (t : Bool) (q r : Run) → t ≡ false → cond t (refused 7 0) (accepted q) ≡ accepted r → q ≡ r
 kept-run true q r h e = let z : _≡_ {A = ℕ} 0 1 = cc in absurd (omega arith)
@@ -48,9 +49,11 @@ opened-known : (img : List ℕ) (h : Header) → opened known img ≡ accepted h
 unfolding opened
 opened-known img h e = let s = andThen-accepted (sized (body img)) _ h e in headed-parts known (s .0) img h (s .2) .layout
 
-pub list-whole : (img : List ℕ) (r : Run) → length img ≡ 2240 → pageOf known img 0 room ≡ accepted r → r .next ≡ 24
-unfolding pageOf
+pub list-whole : (img : List ℕ) (r : Run) → length img ≡ 2240 → listOf img ≡ accepted r → r .next ≡ 24
+unfolding listOf pageOf
 list-whole img r l e =
-    let o = andThen-accepted (opened known img) _ r e in
+    let t = andThen-accepted (tailOf known img) _ r e in
+    let o = andThen-accepted (opened known img) _ r (t .2) in
     let b : length (body img) ≡ 2176 = omega (arith, length-body img) in
-    body-whole (o .0 .layout) (body img) r (known-room (o .0 .number) (o .0 .layout) (opened-known img (o .0) (o .1))) b (o .2)
+    body-whole (o .0 .layout) (body img) r (known-room (o .0 .number) (o .0 .layout) (opened-known img (o .0) (o .1))) b
+    (unchanged-accepted (o .0 .tail .changes) (t .0 .changes) _ (o .2) .1)

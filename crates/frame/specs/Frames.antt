@@ -9,11 +9,11 @@ use lib.ListN.{length, take, drop}
 use lib.Dec.{eqb, leb}
 use Rattle.crumbmap.specs.Layouts.{known}
 use Rattle.buckets.specs.Buckets.{given}
-use Rattle.machine.specs.Results.{Result, accepted, refused}
+use Rattle.machine.specs.Results.{Result, accepted, refused, andThen}
 use Rattle.machine.specs.Machine.{Asked, Counted, Place, nowhere, front, first, second}
 use Rattle.machine.specs.Pages.{Run}
 use Rattle.machine.specs.Calls.{imageOf}
-use Rattle.form.specs.Calls.{insertOf, deleteOf, askOf, countOf, pageOf}
+use Rattle.form.specs.Calls.{insertOf, deleteOf, askOf, countOf, pageOf, tailOf}
 use Rattle.answers.specs.Pairs.{saidOf, answerValue}
 use Rattle.text.specs.Texts.{unhex, over}
 use Rattle.frame.specs.declared.Frame.{Frame}
@@ -74,6 +74,10 @@ listText p = told 5 (saidOf countValue p) ++ entryLines (entriesOf p)
 abbrev pub room : ℕ
 room = 1728
 
+-- a list is one page from 0, and brings the change count that the image's tail tells
+unfoldable pub listOf : List ℕ → Result Run
+listOf img = andThen (tailOf known img) λ t. pageOf known img 0 (t .changes) room
+
 -- ---- what a frame prints, and the image after it
 
 unfoldable pub textOf : Frame → List ℕ → List ℕ
@@ -81,7 +85,7 @@ textOf (Insert k) img = told 1 (saidOf answerValue (insertOf known img k))
 textOf (Delete k) img = told 2 (saidOf answerValue (deleteOf known img k))
 textOf (Ask k) img = told 3 (saidOf askValue (askOf known img k))
 textOf (Count k) img = told 4 (saidOf copiesValue (countOf known img k))
-textOf Listing img = listText (pageOf known img 0 room)
+textOf Listing img = listText (listOf img)
 textOf Malformed img = malformed
 
 unfoldable pub imageAfter : Frame → List ℕ → List ℕ

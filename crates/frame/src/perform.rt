@@ -7,6 +7,7 @@ use answers::AskResult;
 use answers::CountResult;
 use answers::PageResult;
 use answers::Place;
+use answers::TailResult;
 use answers::pairs::Said;
 use answers::pairs::changed;
 use answers::pairs::refused;
@@ -15,18 +16,17 @@ use breadcrumb::count;
 use breadcrumb::delete;
 use breadcrumb::insert;
 use breadcrumb::page;
+use breadcrumb::tail;
 use text::print::put_entries;
 use text::print::put_line;
 use text::print::put_malformed;
 ghost use mathlib.Core.Path.{_≡_};
 ghost use Prim.Native.Nat.{_≤_};
 ghost use lib.ListN.{length};
-ghost use Rattle.crumbmap.specs.Layouts.{known};
-ghost use Rattle.form.specs.Calls.{pageOf};
-ghost use Rattle.answers.specs.Answers.{placeOf, askedOf, countedOf};
+ghost use Rattle.answers.specs.Answers.{placeOf, askedOf, countedOf, Writes};
 ghost use Rattle.answers.specs.Pairs.{saidOf};
 ghost use Rattle.text.specs.Texts.{over};
-ghost use Rattle.frame.specs.Frames.{placeNumber, askValue, copiesValue, listText, room, Performs, Answers};
+ghost use Rattle.frame.specs.Frames.{placeNumber, askValue, copiesValue, listText, listOf, room, Performs, Answers};
 
 // A line of input, without its newline, on an image with B = 3: its answer stands at the start of `out`.
 pub fn frame(image: &mut [u8], line: &[u8], out: &mut [u8]) -> Printed
@@ -99,8 +99,8 @@ fn counted(given: CountResult) -> Said
 // "For list, the member count, then a line of 16 digits for each g."
 fn list(image: &[u8], out: &mut [u8]) -> usize
     requires { ⌜ 29397 ≤ length (now out) ⌝ }
-    ensures { λ n. ⌜ n ≡ length (listText (pageOf known (now (image .entry)) 0 room)) ⌝ }
-    ensures { λ n. ⌜ now (out .exit) ≡ over 0 (listText (pageOf known (now (image .entry)) 0 room)) (now (out .entry)) ⌝ }
+    ensures { λ n. ⌜ n ≡ length (listText (listOf (now (image .entry)))) ⌝ }
+    ensures { λ n. ⌜ now (out .exit) ≡ over 0 (listText (listOf (now (image .entry)))) (now (out .entry)) ⌝ }
 {
     let mut entries = [0u64; 1728];
     list_by(image, &mut entries, out)
@@ -109,10 +109,10 @@ fn list(image: &[u8], out: &mut [u8]) -> usize
 // A list by way of a slice with room for every member.
 fn list_by(image: &[u8], entries: &mut [u64], out: &mut [u8]) -> usize
     requires { ⌜ (length (now entries) ≡ room) × (29397 ≤ length (now out)) ⌝ }
-    ensures { λ n. ⌜ n ≡ length (listText (pageOf known (now (image .entry)) 0 room)) ⌝ }
-    ensures { λ n. ⌜ now (out .exit) ≡ over 0 (listText (pageOf known (now (image .entry)) 0 room)) (now (out .entry)) ⌝ }
+    ensures { λ n. ⌜ n ≡ length (listText (listOf (now (image .entry)))) ⌝ }
+    ensures { λ n. ⌜ now (out .exit) ≡ over 0 (listText (listOf (now (image .entry)))) (now (out .entry)) ⌝ }
 {
-    match page(image, 0, entries) {
+    match page_whole(image, entries) {
         PageResult::Accepted(n, _) => {
             put_line(
                 out,
@@ -126,5 +126,16 @@ fn list_by(image: &[u8], entries: &mut [u64], out: &mut [u8]) -> usize
             21 + 17 * n
         }
         PageResult::Refused(why) => put_line(out, 5, refused(why)),
+    }
+}
+
+// The page of a list, whose walk begins with the change count that the tail tells.
+fn page_whole(image: &[u8], entries: &mut [u64]) -> PageResult
+    requires { ⌜ length (now entries) ≡ room ⌝ }
+    ensures { λ r. ⌜ Writes (listOf (now (image .entry))) (now (entries .entry)) r (now (entries .exit)) ⌝ }
+{
+    match tail(image) {
+        TailResult::Accepted(told) => page(image, 0, told.changes, entries),
+        TailResult::Refused(why) => PageResult::Refused(why),
     }
 }

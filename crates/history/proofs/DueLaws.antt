@@ -1,6 +1,6 @@
 -- The tail's numbers in a history's list: where a front bucket is not full the image has a free slot (`room-left`), so an insert is never due 12, nor is
--- a delete (`due-insert`, `due-delete`); no call gets 11 or 12 (`tail-numbers`), and inserts and deletes get 13 exactly at the top count
--- (`spent-insert`, `spent-delete`).
+-- a delete (`due-insert`, `due-delete`); no call gets 11 or 12 (`tail-numbers`), inserts and deletes get 13 exactly at the top count
+-- (`spent-insert`, `spent-delete`), and pages 14 exactly where they bring another (`stale-page`).
 use mathlib.Core.Path.{_≡_, refl}
 use mathlib.Core.Logic.{_⊎_, inl, inr, _↔_}
 use Prim.Native.Nat.{ℕ, zero, suc, _+_, _*_, _^_, _≤_, _<_}
@@ -24,7 +24,7 @@ use Rattle.form.specs.Tails.{body, top, slots, members}
 use Rattle.history.specs.Histories.{Call, insert, delete, ask, count, page, Fits, History, blocks, numberOf, bytesAfter}
 use Rattle.history.specs.Ledgers.{fingerprintOf, ledger, filed}
 use Rattle.history.specs.Refusals.{due}
-use Rattle.history.proofs.LedgerLaws.{front-lt, place-lt}
+use Rattle.history.proofs.LedgerLaws.{pageNumber, front-lt, place-lt}
 use Rattle.history.proofs.StepLaws.{total-members}
 use Rattle.history.proofs.HistoryLaws.{StandsAfter, call-due}
 
@@ -124,10 +124,25 @@ change-clean changes b v h = go (eqb changes top) b
     go false true = ((λ e. omega arith), λ e. omega arith)
     go false false = ((λ e. omega arith), λ e. omega arith)
 
-page-clean : (a b : Bool) → Clean (cond a 6 (cond b 7 0))
-page-clean true b = ((λ e. omega arith), λ e. omega arith)
-page-clean false true = ((λ e. omega arith), λ e. omega arith)
-page-clean false false = ((λ e. omega arith), λ e. omega arith)
+-- a page's own number, or 14
+page-small : (L : Layout) (B : ℕ) (N : ℕ → ℕ) (s room : ℕ) → pageNumber L B N s room < 8
+page-small L B N s room = go (ltb (fronts B) s) (ltb s (fronts B) && ltb room (sum N (fingerprint L s 0) (keys L)))
+  where
+    go : (a b : Bool) → cond a 6 (cond b 7 0) < 8
+    go true b = omega arith
+    go false true = omega arith
+    go false false = omega arith
+
+page-clean : (a : Bool) (v : ℕ) → v < 8 → Clean (cond a v 14)
+page-clean true v l = ((λ e. omega arith), λ e. omega arith)
+page-clean false v l = ((λ e. omega arith), λ e. omega arith)
+
+page-stale : (changes n v : ℕ) → v < 8 → (cond (eqb changes n) v 14 ≡ 14) ↔ (changes ≡ n → ⊥)
+page-stale changes n v l = (there (eqb changes n) refl, λ d. rw (ne-eqb changes n d) refl)
+  where
+    there : (a : Bool) → eqb changes n ≡ a → cond a v 14 ≡ 14 → changes ≡ n → ⊥
+    there true q e s = omega arith
+    there false q e s = eqb-false changes n q s
 
 change-spent : (changes : ℕ) (b : Bool) (v : ℕ) → v < 11 → (changeNumber changes b v ≡ 13) ↔ (changes ≡ top)
 unfolding changeNumber
@@ -182,11 +197,14 @@ module _ (layouts : Numbering) (L : Layout) (h : History) (st : StandsAfter layo
   due-clean (delete k) l = rw (due-delete k l) (change-clean _ _ 5 (omega arith))
   due-clean (ask k) l = ((λ e. omega arith), λ e. omega arith)
   due-clean (count k) l = ((λ e. omega arith), λ e. omega arith)
-  due-clean (page s room) l =
-      page-clean (ltb (fronts (blocks h)) s) (ltb s (fronts (blocks h)) && ltb room (sum (ledger layouts L h) (fingerprint L s 0) (keys L)))
+  due-clean (page s n room) l = page-clean (eqb (filed layouts h .changes) n) _ (page-small L (blocks h) (ledger layouts L h) s room)
 
   pub tail-numbers : (c : Call) → Fits c → Clean (numberOf layouts (bytesAfter layouts h) c)
   tail-numbers c l = rw (call-due layouts h L st c l) (due-clean c l)
+
+  pub stale-page : (s n room : ℕ) → (numberOf layouts (bytesAfter layouts h) (page s n room) ≡ 14) ↔ (filed layouts h .changes ≡ n → ⊥)
+  unfolding due
+  stale-page s n room = rw (call-due layouts h L st (page s n room) tt) (page-stale _ n _ (page-small L (blocks h) (ledger layouts L h) s room))
 
   pub spent-insert : (k : ℕ) → k < 2 ^ 64 → (numberOf layouts (bytesAfter layouts h) (insert k) ≡ 13) ↔ (filed layouts h .changes ≡ top)
   spent-insert k l = rw (call-due layouts h L st (insert k) l, due-insert k l) (change-spent _ _ 4 (omega arith))

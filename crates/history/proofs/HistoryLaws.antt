@@ -144,7 +144,7 @@ call-due layouts h L st (insert k) l = insert-step st k l .0
 call-due layouts h L st (delete k) l = delete-step st k l .0
 call-due layouts h L st (ask k) l = rw (askOf-body st k, ask-ledger (st .fits) (st .keep) k l .1) refl
 call-due layouts h L st (count k) l = rw (countOf-body st k, count-ledger (st .fits) (st .keep) k l .1) refl
-call-due layouts h L st (page from room) l = page-step st from room
+call-due layouts h L st (page s n room) l = page-step st s n room
 
 module _ (layouts : Numbering) (fit : AllFit layouts) where
   merged : (a b : History) (old : List ℕ) {L K : Layout} → StandsAfter layouts L a → StandsAfter layouts K b

@@ -13,12 +13,12 @@ use Rattle.multiset.specs.Multisets.{sum}
 use Rattle.crumbmap.specs.Layouts.{Layout, Numbering, keys, fronts}
 use Rattle.crumbmap.specs.Fingerprints.{frontOf}
 use Rattle.buckets.specs.Buckets.{Fits64}
-use Rattle.machine.specs.Results.{accepted, number}
+use Rattle.machine.specs.Results.{accepted, refused, number}
 use Rattle.machine.specs.Machine.{full}
 use Rattle.machine.specs.Calls as M
 use Rattle.machine.specs.OccupancyPages as O
 use Rattle.form.specs.Tails.{Tail, Header, body, tailBytes, top, slots, members, raised, lowered, headed, opened}
-use Rattle.form.specs.Calls.{changedBy, insertOf, deleteOf, askOf, countOf, pageOf, occupancyOf}
+use Rattle.form.specs.Calls.{changedBy, unchanged, insertOf, deleteOf, askOf, countOf, pageOf, occupancyOf}
 use Rattle.form.proofs.TailLaws.{body-form, headed-form}
 use Rattle.form.proofs.CountLaws.{members-most, slots-small}
 use Rattle.history.specs.Histories.{Call, insert, delete, ask, count, page, Fits, numberOf, imageAfter}
@@ -90,9 +90,9 @@ module _ {layouts : Numbering} {n : ℕ} {L : Layout} {B : ℕ} {img : List ℕ}
   unfolding countOf
   countOf-body k = rw opens refl
 
-  pub pageOf-body : (s room : ℕ) → pageOf layouts img s room ≡ M.pageOf L (body img) s room
+  pub pageOf-body : (s m room : ℕ) → pageOf layouts img s m room ≡ unchanged (t .changes) m (M.pageOf L (body img) s room)
   unfolding pageOf
-  pageOf-body s room = rw opens refl
+  pageOf-body s m room = rw opens refl
 
   pub occupancyOf-body : (p room : ℕ) → occupancyOf layouts img p room ≡ O.occupancyOf L (body img) p room
   unfolding occupancyOf
@@ -150,8 +150,13 @@ module _ {layouts : Numbering} {n : ℕ} {L : Layout} {B : ℕ} {img : List ℕ}
       go true e = rw (deleteOf-body k, e) (refl, st)
       go false e = body-step e (delete-ledger (st .fits) keep k h)
 
-  pub page-step : (s room : ℕ) → numberOf layouts img (page s room) ≡ pageNumber L B N s room
-  page-step s room = rw (pageOf-body s room) (page-due keep s room)
+  pub page-step : (s m room : ℕ) → numberOf layouts img (page s m room) ≡ cond (eqb (t .changes) m) (pageNumber L B N s room) 14
+  unfolding unchanged
+  page-step s m room = rw (pageOf-body s m room) (go (eqb (t .changes) m))
+    where
+      go : (b : Bool) → number (cond b (M.pageOf L (body img) s room) (refused 14 0)) ≡ cond b (pageNumber L B N s room) 14
+      go true = page-due keep s room
+      go false = refl
 
   pub call-stands : (c : Call) → Fits c
       → Stands layouts n L B (imageAfter layouts img c) (entered L B (numberOf layouts img c) c N) (adjusted (numberOf layouts img c) c t)
@@ -160,4 +165,4 @@ module _ {layouts : Numbering} {n : ℕ} {L : Layout} {B : ℕ} {img : List ℕ}
   call-stands (delete k) h = delete-step k h .1
   call-stands (ask k) h = st
   call-stands (count k) h = st
-  call-stands (page s room) h = st
+  call-stands (page s m room) h = st

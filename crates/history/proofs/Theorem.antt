@@ -1,8 +1,8 @@
 -- Demand 3, for every numbering of layouts whose buckets fit 64 bytes (`demand3`) and for the layouts that there are (`demand3-known`): after every
 -- history each call was refused exactly where it is due, counts and asks tell the ledger, a full walk lists it, and the tail tells its sum.
 -- Beside it: check accepts every history's image (`check-accepts`), so each backyard member in it leads home (`members-lead-home`), and a
--- merge of two is refused only when full (`merge-refused-only-full`); no call gets 11 or 12 (`no-tail-number`), and 13 comes exactly at the top count
--- (`spent-at-top`); new, old, new gives the image with change count 0 (`image-said`, `new-old-new`); what the copies of an ask tell of the ledger
+-- merge of two is refused only when full (`merge-refused-only-full`); no call gets 11 or 12 (`no-tail-number`), 13 comes exactly at the top count
+-- (`spent-at-top`), and 14 exactly for another count than the image's (`stale-refused`); new, old, new gives the image with change count 0 (`image-said`, `new-old-new`); what the copies of an ask tell of the ledger
 -- (`copies-told`); an occupancy page tells the ledger (`occupancy-said`, `page-long`, `line-said`, `line-shows`).
 use mathlib.Core.Path.{_≡_, refl, sym, _∙_}
 use mathlib.Core.Logic.{_⊎_, inl, inr, _↔_}
@@ -36,7 +36,7 @@ use Rattle.form.specs.Calls.{askOf, checkOf, tailOf, mergeSizedOf, mergeOf, occ
 use Rattle.form.specs.Moves.{attachOf, detachOf}
 use Rattle.form.proofs.TailLaws.{length-body, headed-parts}
 use Rattle.form.proofs.MoveLaws as F
-use Rattle.history.specs.Histories.{Call, insert, delete, Fits, History, Started, blocks, layoutNumber, numberOf, bytesAfter}
+use Rattle.history.specs.Histories.{Call, insert, delete, page, Fits, History, Started, blocks, layoutNumber, numberOf, bytesAfter}
 use Rattle.history.specs.Ledgers.{ledger, filed}
 use Rattle.history.specs.Demand.{Demand3, AllFit}
 use Rattle.history.specs.Copies.{CopiesTold}
@@ -44,7 +44,7 @@ use Rattle.history.specs.Occupancies.{filedIn, pageSaid, Shows}
 use Rattle.history.proofs.LedgerLaws.{count-ledger, ask-ledger}
 use Rattle.history.proofs.StepLaws.{Stands, headerOf, total-members, opens-at, opens, askOf-body, countOf-body, occupancyOf-body}
 use Rattle.history.proofs.HistoryLaws.{StandsAfter, check-stands, mergeSizedOf-body, stands, stands-at, all-due}
-use Rattle.history.proofs.DueLaws.{tail-numbers, spent-insert, spent-delete}
+use Rattle.history.proofs.DueLaws.{tail-numbers, spent-insert, spent-delete, stale-page}
 use Rattle.history.proofs.WalkSegments.{full-walk}
 use Rattle.history.proofs.ShownLaws.{line-shown}
 
@@ -125,6 +125,11 @@ module _ (layouts : Numbering) (fit : AllFit layouts) where
       → ((numberOf layouts (bytesAfter layouts h) (insert k) ≡ 13) ↔ (filed layouts h .changes ≡ top))
       × ((numberOf layouts (bytesAfter layouts h) (delete k) ≡ 13) ↔ (filed layouts h .changes ≡ top))
   spent-at-top h s k l = let x = stands layouts fit h s in (spent-insert layouts (x .0) h (x .1) k l, spent-delete layouts (x .0) h (x .1) k l)
+
+  -- a page gets 14 exactly where the change count that it brings is not the image's
+  pub stale-refused : (h : History) → Started layouts h → (s n room : ℕ)
+      → (numberOf layouts (bytesAfter layouts h) (page s n room) ≡ 14) ↔ (filed layouts h .changes ≡ n → ⊥)
+  stale-refused h s from n room = let x = stands layouts fit h s in stale-page layouts (x .0) h (x .1) from n room
 
   -- the image is its body with the tail of its total and its change count
   pub image-said : (h : History) → Started layouts h → bytesAfter layouts h ≡ body (bytesAfter layouts h) ++ tailBytes (layoutNumber h) (filed layouts h)

@@ -11,10 +11,10 @@ use Rattle.machine.specs.Calls.{written, imageOf}
 use Rattle.form.specs.Tails.{body}
 use Rattle.form.specs.Calls.{freshOf, insertOf, deleteOf, askOf, countOf, pageOf, mergeOf}
 
--- "inserts, deletes, asks, counts and pages": a hash, or a page's start and the length of its output
+-- "inserts, deletes, asks, counts and pages": a hash, or a page's start, its change count and the length of its output
 pub data Call : Type 0 where
   insert delete ask count : ℕ → Call
-  page : ℕ → ℕ → Call
+  page : ℕ → ℕ → ℕ → Call
 
 -- "an accepted fresh, or an accepted merge into this image of two histories' images", then calls; a fresh brings the number of its layout, and a
 -- start the bytes that it writes over
@@ -29,7 +29,7 @@ Fits (insert k) = k < 2 ^ 64
 Fits (delete k) = k < 2 ^ 64
 Fits (ask k) = k < 2 ^ 64
 Fits (count k) = k < 2 ^ 64
-Fits (page s room) = Unit {0}
+Fits (page s n room) = Unit {0}
 
 -- B of a history's image
 unfoldable pub blocks : History → ℕ
@@ -50,7 +50,7 @@ module _ (layouts : Numbering) where
   numberOf img (delete k) = number (deleteOf layouts img k)
   numberOf img (ask k) = number (askOf layouts img k)
   numberOf img (count k) = number (countOf layouts img k)
-  numberOf img (page s room) = number (pageOf layouts img s room)
+  numberOf img (page s n room) = number (pageOf layouts img s n room)
 
   -- the image after a call
   abbrev pub imageAfter : List ℕ → Call → List ℕ
@@ -58,7 +58,7 @@ module _ (layouts : Numbering) where
   imageAfter img (delete k) = imageOf (deleteOf layouts img k) img
   imageAfter img (ask k) = img
   imageAfter img (count k) = img
-  imageAfter img (page s room) = img
+  imageAfter img (page s n room) = img
 
   -- "each call gets the bytes that the start or the call before left": the bytes after a history
   unfoldable pub bytesAfter : History → List ℕ

@@ -22,7 +22,7 @@ module _ (L : Layout) where
   entered B (suc n) (delete k) N g = N g
   entered B n (ask k) N g = N g
   entered B n (count k) N g = N g
-  entered B n (page s room) N g = N g
+  entered B n (page s changes room) N g = N g
 
   -- "the sum of N(h) over all h < g with the same f", g by front bucket and key
   unfoldable pub smaller : (ℕ → ℕ) → ℕ → ℕ → ℕ
@@ -36,7 +36,7 @@ adjusted zero (delete k) t = record { total = t .total - 1; changes = t .changes
 adjusted (suc n) (delete k) t = t
 adjusted n (ask k) t = t
 adjusted n (count k) t = t
-adjusted n (page s room) t = t
+adjusted n (page s changes room) t = t
 
 module _ (layouts : Numbering) where
   -- by the layout L of the history's image: "An accepted fresh sets every N(g) to 0. An accepted merge sets N(g) to the sum of both sources' N(g)."

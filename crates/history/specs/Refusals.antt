@@ -13,7 +13,7 @@ use Rattle.history.specs.Ledgers.{fingerprintOf, ledger, filed}
 
 module _ (layouts : Numbering) (L : Layout) where
   -- insert and delete 13 "at the top change count"; insert "4: full", delete "5: absent"; then 12, "that would take the total below 0 or above the
-  -- slots"; page "6: s > F" and "7: bucket s does not fit"; no other number
+  -- slots"; page 14 for "a different count", then "6: s > F" and "7: bucket s does not fit"; no other number
   unfoldable pub due : History → Call → ℕ
   due h (insert k) =
       cond (eqb (filed layouts h .changes) top) 13
@@ -25,9 +25,11 @@ module _ (layouts : Numbering) (L : Layout) where
       (cond (eqb (filed layouts h .total) 0) 12 0))
   due h (ask k) = 0
   due h (count k) = 0
-  due h (page s room) =
-      cond (ltb (fronts (blocks h)) s) 6
-      (cond (ltb s (fronts (blocks h)) && ltb room (sum (ledger layouts L h) (fingerprint L s 0) (keys L))) 7 0)
+  due h (page s n room) =
+      cond (eqb (filed layouts h .changes) n)
+      (cond (ltb (fronts (blocks h)) s) 6
+      (cond (ltb s (fronts (blocks h)) && ltb room (sum (ledger layouts L h) (fingerprint L s 0) (keys L))) 7 0))
+      14
 
   -- each call in h's own list gave the number that was due where it stood
   abbrev pub Due : History → Type 0

@@ -10,6 +10,7 @@ use crumbmap::layout::MOST_MEMBERS;
 use listing::MemberCount;
 use listing::members::count_members;
 use listing::members::list_members;
+use tails::Opened;
 use tails::Opening;
 use tails::open::open_image;
 ghost use mathlib.Core.Path.{_≡_};
@@ -21,34 +22,47 @@ ghost use Rattle.crumbmap.specs.Layouts.{layout1, keys as allKeys, fronts};
 ghost use Rattle.crumbmap.specs.Fingerprints.{fingerprint};
 ghost use Rattle.machine.specs.Pages.{pageFrom};
 ghost use Rattle.machine.specs.Calls.{pageOf};
+ghost use Rattle.form.specs.Calls.{unchanged};
 ghost use Rattle.answers.specs.Answers.{Pages, Writes};
 ghost use Rattle.image.specs.Steps.ImageReads.{Whole};
 ghost use Rattle.image.specs.Steps.Listed.{Listed};
 ghost use Rattle.listing.specs.Steps.Listings.{membersIn, MembersRead};
 ghost use Rattle.paging.specs.Steps.PageRuns.{entriesIn, Ran, EndSays};
 
-// The members from front bucket `start` on into `out`: how many, and the next bucket.
-pub fn page(image: &[u8], start: usize, out: &mut [u64]) -> PageResult
-    ensures { λ r. ⌜ Pages (now (image .entry)) start (now (out .entry)) r (now (out .exit)) ⌝ }
+// The members from front bucket `start` on into `out`: how many, and the next bucket. `changes` is "the change count that the walk began with".
+pub fn page(image: &[u8], start: usize, changes: u64, out: &mut [u64]) -> PageResult
+    ensures { λ r. ⌜ Pages (now (image .entry)) start changes (now (out .entry)) r (now (out .exit)) ⌝ }
 {
     match open_image(image) {
         Opening::Refused(why) => PageResult::Refused(why),
         Opening::At(opened) => {
             let end = opened.end;
-            page_sized(&image[..end], opened.size, start, out)
+            page_opened(&image[..end], opened, start, changes, out)
         }
     }
 }
 
-// The same on a body of a size.
-fn page_sized(image: &[u8], size: usize, start: usize, out: &mut [u64]) -> PageResult
-    requires { ⌜ Whole size (now image) ⌝ }
-    ensures { λ r. ⌜ Writes (pageOf layout1 (now (image .entry)) start (length (now (out .entry)))) (now (out .entry)) r (now (out .exit)) ⌝ }
+// The same on the body of an opened image: 14, then 6.
+fn page_opened(
+    image: &[u8],
+    opened: Opened,
+    start: usize,
+    changes: u64,
+    out: &mut [u64],
+) -> PageResult
+    requires { ⌜ Whole (opened .size) (now image) ⌝ }
+    ensures { λ r. ⌜ Writes (unchanged (opened .changes) changes (pageOf layout1 (now (image .entry)) start (length (now (out .entry)))))
+        (now (out .entry)) r (now (out .exit)) ⌝ }
 {
-    if 8 * size < start {
+    let end = 8 * opened.size;
+    let current = opened.changes;
+    if current != changes {
+        return PageResult::Refused(Refusal::Changed);
+    }
+    if end < start {
         return PageResult::Refused(Refusal::PastEnd);
     }
-    page_from(image, size, start, out)
+    page_from(image, opened.size, start, out)
 }
 
 // From a front bucket of the image, or from its end.

@@ -1,4 +1,4 @@
-// A stored line that keeps the lengths of the images: a call on one image, two or three, a row of asks, or bytes poked.
+// A stored line that keeps the state: a call on one image, two or three, a row of asks, or bytes poked.
 
 use capi::bcf_ask;
 use capi::bcf_attach;
@@ -20,14 +20,21 @@ use stored::sum::of_output;
 use stored::sum::of_page;
 use trio::row;
 
-// A line on one image.
-pub fn within(operation: u64, image: &mut [u8], p: u64, q: usize, out: &mut [u64]) -> Outcome {
+// A line on one image. A page brings the change count `changes`.
+pub fn within(
+    operation: u64,
+    image: &mut [u8],
+    p: u64,
+    q: usize,
+    changes: u64,
+    out: &mut [u64],
+) -> Outcome {
     if operation == 9 {
         poke(image, q, p);
         return Outcome::Nothing;
     }
     if operation == 5 || operation == 15 {
-        return numbers(operation, image, p, out, q);
+        return numbers(operation, image, p, changes, out, q);
     }
     if operation == 11 {
         return row(image, p, q);
@@ -61,20 +68,27 @@ fn answer_of(operation: u64, image: &mut [u8], hash: u64) -> u64 {
 }
 
 // A page or a tail into the first q entries of `out`, if there are so many.
-fn numbers(operation: u64, image: &[u8], from: u64, out: &mut [u64], q: usize) -> Outcome {
+fn numbers(
+    operation: u64,
+    image: &[u8],
+    from: u64,
+    changes: u64,
+    out: &mut [u64],
+    q: usize,
+) -> Outcome {
     if out.len() < q {
         return Outcome::Nothing;
     }
     let out = &mut out[0..q];
     fill(out);
-    let answer = numbers_of(operation, image, from, out);
+    let answer = numbers_of(operation, image, from, changes, out);
     Outcome::Said(operation, answer, of_page(image, out))
 }
 
 // What it gives.
-fn numbers_of(operation: u64, image: &[u8], from: u64, out: &mut [u64]) -> u64 {
+fn numbers_of(operation: u64, image: &[u8], from: u64, changes: u64, out: &mut [u64]) -> u64 {
     match operation {
-        5 => bcf_page(image, from, out),
+        5 => bcf_page(image, from, changes, out),
         _ => bcf_tail(image, out),
     }
 }

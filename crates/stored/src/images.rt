@@ -1,31 +1,56 @@
 // The three images, numbered 0 to 2, each the start of a buffer, and what sets them up between calls.
 
-// How long each image is.
-pub struct Lengths {
+// What stands from line to line: how long each image is, and the change count that pages bring.
+pub struct State {
     pub a: usize,
     pub b: usize,
     pub c: usize,
+    pub changes: u64,
 }
 
 // The length of an image.
-pub fn length_of(lengths: Lengths, number: u64) -> usize {
+pub fn length_of(state: State, number: u64) -> usize {
     match number {
-        0 => lengths.a,
-        1 => lengths.b,
-        _ => lengths.c,
+        0 => state.a,
+        1 => state.b,
+        _ => state.c,
     }
 }
 
-// The lengths, once an image has another.
-pub fn with_length(lengths: Lengths, number: u64, n: usize) -> Lengths {
-    let a = lengths.a;
-    let b = lengths.b;
-    let c = lengths.c;
+// The state, once an image has another length.
+pub fn with_length(state: State, number: u64, n: usize) -> State {
+    let a = state.a;
+    let b = state.b;
+    let c = state.c;
+    let changes = state.changes;
     match number {
-        0 => Lengths { a: n, b, c },
-        1 => Lengths { a, b: n, c },
-        _ => Lengths { a, b, c: n },
+        0 => State {
+            a: n,
+            b,
+            c,
+            changes,
+        },
+        1 => State {
+            a,
+            b: n,
+            c,
+            changes,
+        },
+        _ => State {
+            a,
+            b,
+            c: n,
+            changes,
+        },
     }
+}
+
+// The state, once pages bring another change count.
+pub fn with_changes(state: State, changes: u64) -> State {
+    let a = state.a;
+    let b = state.b;
+    let c = state.c;
+    State { a, b, c, changes }
 }
 
 // The image of n bytes at the start of a buffer; all of it if it has fewer.
@@ -40,11 +65,11 @@ fn started(buffer: &[u8], n: usize) -> &[u8] {
 pub fn picked<'a>(
     lower: &'a [u8],
     upper: &'a [u8],
-    lengths: Lengths,
+    state: State,
     number: u64,
     target: u64,
 ) -> &'a [u8] {
-    let n = length_of(lengths, number);
+    let n = length_of(state, number);
     if number == 2 {
         return started(upper, n);
     }

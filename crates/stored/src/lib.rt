@@ -5,11 +5,11 @@ pub mod line;
 pub mod said;
 pub mod sum;
 
-use crate::images::Lengths;
+use crate::images::State;
 
-// What a line did: other lengths of the images; a call's operation, its answer and the checksum of the bytes that it was lent; or neither.
+// What a line did: another state; a call's operation, its answer and the checksum of the bytes that it was lent; or neither.
 pub enum Outcome {
-    Lengths(Lengths),
+    State(State),
     Said(u64, u64, u64),
     Nothing,
 }

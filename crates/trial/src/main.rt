@@ -2,18 +2,18 @@
 
 use script::perform::step;
 use stored::Outcome;
-use stored::images::Lengths;
+use stored::images::State;
 use stored::said::put_said;
 
-// The answer of a call is printed; the lengths of the images after what was done.
-fn told(done: Outcome, lengths: Lengths) -> Lengths {
+// The answer of a call is printed; the state after what was done.
+fn told(done: Outcome, state: State) -> State {
     match done {
-        Outcome::Lengths(others) => others,
+        Outcome::State(next) => next,
         Outcome::Said(operation, answer, sum) => {
             print(operation, answer, sum);
-            lengths
+            state
         }
-        Outcome::Nothing => lengths,
+        Outcome::Nothing => state,
     }
 }
 
@@ -27,15 +27,20 @@ fn print(operation: u64, answer: u64, sum: u64) {
 // Line after line. A proved loop has to end, and nothing says that the input does: the turns are counted down from a number that no run uses up.
 fn run(a: &mut [u8], b: &mut [u8], c: &mut [u8], out: &mut [u64]) {
     let mut text = [0u8; 30];
-    let mut lengths = Lengths { a: 0, b: 0, c: 0 };
+    let mut state = State {
+        a: 0,
+        b: 0,
+        c: 0,
+        changes: 0,
+    };
     let mut turns = u64::MAX;
     while 0 < turns {
         let n = io::read_full(0, &mut text);
         if n < 30 {
             return;
         }
-        let done = step(&text, lengths, a, b, c, out);
-        lengths = told(done, lengths);
+        let done = step(&text, state, a, b, c, out);
+        state = told(done, state);
         turns -= 1;
     }
 }

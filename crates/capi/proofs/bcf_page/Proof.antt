@@ -17,11 +17,11 @@ paged-requires : tie.Need-paged-requires
 paged-requires c κs =
     let a = c .before .before .before .before .before .before .args in
     rw (c .before .before .page .ensures .answer)
-    (within-mapped (λ (r : Run). (length (r .entries), r .next)) (page-fits (a .image .now) (a .start) (length (a .out .now))))
+    (within-mapped (λ (r : Run). (length (r .entries), r .next)) (page-fits (a .image .now) (a .start) (a .changes) (length (a .out .now))))
 
 -- what is asked of the machine
 abbrev asked : tie.After-paged → Result Run
-asked c = let a = c .before .before .before .before .before .before .before .args in pageOf known (a .image .now) (a .start) (length (a .out .now))
+asked c = let a = c .before .before .before .before .before .before .before .args in pageOf known (a .image .now) (a .start) (a .changes) (length (a .out .now))
 
 -- the number and the value of the answer
 said : (c : tie.After-paged) → c .paged .result ≡ saidOf runWord (asked c)
@@ -30,7 +30,7 @@ said c = let i = c .before .before .before in said-paged (asked c) (i .page .res
 packed-requires : tie.Need-packed-requires
 packed-requires c κs =
     let a = c .before .before .before .before .before .before .before .args in
-    rw (said c) (within-packs (page-fits (a .image .now) (a .start) (length (a .out .now))))
+    rw (said c) (within-packs (page-fits (a .image .now) (a .start) (a .changes) (length (a .out .now))))
 
 returns : tie.Need-returns
 returns c = (c .packed .ensures ∙ rw (said (c .before)), c .before .before .before .before .page .ensures .bytes)

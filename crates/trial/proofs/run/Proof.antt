@@ -6,11 +6,11 @@ use Rattle.trial.proofs.run.Statement.{statement}
 use Rattle.trial.proofs.run.Tie as tie
 
 abbrev Inv-loop : tie.InvT-loop
-Inv-loop a₀ b₀ c₀ out₀ text₀ lengths₀ turns₀ a b c out text lengths turns =
+Inv-loop a₀ b₀ c₀ out₀ text₀ state₀ turns₀ a b c out text state turns =
     (length a ≡ length a₀) × (length b ≡ length b₀) × (length c ≡ length c₀) × (length out ≡ length out₀) × (30 ≡ length text)
 
 abbrev μ-loop : tie.MeasureT-loop
-μ-loop a₀ b₀ c₀ out₀ text₀ lengths₀ turns₀ a b c out text lengths turns = turns
+μ-loop a₀ b₀ c₀ out₀ text₀ state₀ turns₀ a b c out text state turns = turns
 
 pub run-spec : {M : Type 1} → statement M
 run-spec =

@@ -39,10 +39,14 @@ returns-11 c = rw (c .enum-told9 .given .1)
 returns-12 : tie.Need-returns-12
 returns-12 c = rw (c .enum-told10 .given .1)
 
+returns-13 : tie.Need-returns-13
+returns-13 c = rw (c .enum-told11 .given .1)
+
 pub refused-spec : {M : Type 1} → statement M
 refused-spec =
     tie.close
     (tie.spec
+    (λ c. search needs)
     (λ c. search needs)
     (λ c. search needs)
     (λ c. search needs)
@@ -66,4 +70,5 @@ refused-spec =
     returns-9
     returns-10
     returns-11
-    returns-12)
+    returns-12
+    returns-13)
