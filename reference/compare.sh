@@ -9,7 +9,8 @@ after=$(realpath "$2")
 shift 2
 cd "$(dirname "$0")"
 
-# Whether an archive has every function that is linked; one from before has images of the old form, and needs its own `bench`.
+# Whether an archive has every function that is linked; one from before images had a tail has not, and needs its own `bench`. So does
+# one whose pages bring no change count, which its names do not tell.
 is_whole() {
   local missing
   missing=$(comm -23 <(grep -oE '\bbcf_\w+' ../bindings/rust/src/packed.rs | sort -u) \

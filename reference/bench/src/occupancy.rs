@@ -6,6 +6,7 @@ use crate::measure::{timed, wall_time, Effort};
 use crate::turns::in_turns;
 use breadcrumb::{packed, OCCUPANCY_BYTES};
 use model::random::Random;
+use model::tail::Tail;
 use std::hint::black_box;
 
 /// Medians in ns a front bucket: its line of an occupancy page, and its members listed.
@@ -24,11 +25,11 @@ fn lines(image: &[u8], fronts: u64) {
 }
 
 /// Lists every member, 1,024 entries a page.
-fn listed(image: &[u8], fronts: u64) {
+fn listed(image: &[u8], fronts: u64, changes: u64) {
     let mut out = [0; 1024];
     let mut next = 0;
     while next < fronts {
-        let answer = packed::page(image, next, &mut out);
+        let answer = packed::page(image, next, changes, &mut out);
         assert!(answer >> 56 == 0, "accepted");
         next = answer >> 32;
         black_box(&out);
@@ -42,14 +43,17 @@ pub fn run(setting: Setting, effort: Effort) -> Times {
     let (image, _) = filled(setting, any, setting.members());
     let images = [Lines::of(&image, None), Lines::of(&image, None)];
     let fronts = setting.shape().fronts();
-    let ways = [lines, listed];
+    let changes = Tail::changes_in(&image).expect("an image");
+    let ways: [&dyn Fn(&[u8]); 2] = [&|image| lines(image, fronts), &|image| {
+        listed(image, fronts, changes)
+    }];
     let [line, listed] = in_turns(
         effort.whole,
         || (),
         |way, ()| {
             let image: &[u8] = &images[way];
             black_box(packed::check(image));
-            timed(wall_time, || ways[way](image, fronts))
+            timed(wall_time, || ways[way](image))
         },
     );
     Times {

@@ -4,6 +4,7 @@ use crate::inputs::sources;
 use crate::lines::Lines;
 use model::catalogue::Catalogue;
 use model::shape::TAIL;
+use model::tail::Tail;
 use std::collections::HashMap;
 use std::fs::File;
 use std::hash::{BuildHasherDefault, Hasher};
@@ -53,6 +54,8 @@ pub struct Filter<C> {
     halves: [Lines; 2],
     target: Lines,
     old: Lines,
+    /// The change count of the members at the start, which a page brings.
+    changes: u64,
     out: Vec<u64>,
 }
 
@@ -80,6 +83,7 @@ impl<C: Catalogue> Filter<C> {
             ],
             target: Lines::of(start, files.get(3)),
             old: Lines::of(&start[..start.len() - TAIL], files.get(4)),
+            changes: Tail::changes_in(start).expect("an image"),
             out: vec![0; members],
         }
     }
@@ -130,7 +134,8 @@ impl<C: Catalogue> Subject for Filter<C> {
     }
 
     fn page(&mut self) -> Option<u64> {
-        Some(self.catalogue.page(&self.image, 0, &mut self.out) & 0xFFFFFFFF)
+        let (image, changes) = (&self.image, self.changes);
+        Some(self.catalogue.page(image, 0, changes, &mut self.out) & 0xFFFFFFFF)
     }
 
     fn merge(&mut self) -> Option<u64> {

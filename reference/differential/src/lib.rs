@@ -34,8 +34,8 @@ impl Catalogue for Fast {
     fn count(&self, image: &[u8], hash: u64) -> u64 {
         fast::count(image, hash)
     }
-    fn page(&self, image: &[u8], start: u64, out: &mut [u64]) -> u64 {
-        fast::page(image, start, out)
+    fn page(&self, image: &[u8], start: u64, changes: u64, out: &mut [u64]) -> u64 {
+        fast::page(image, start, changes, out)
     }
     fn occupancy(&self, _: &[u8], _: u64, _: &mut [u8]) -> Option<u64> {
         None
@@ -86,8 +86,8 @@ impl Catalogue for Capi {
     fn count(&self, image: &[u8], hash: u64) -> u64 {
         breadcrumb::packed::count(image, hash)
     }
-    fn page(&self, image: &[u8], start: u64, out: &mut [u64]) -> u64 {
-        breadcrumb::packed::page(image, start, out)
+    fn page(&self, image: &[u8], start: u64, changes: u64, out: &mut [u64]) -> u64 {
+        breadcrumb::packed::page(image, start, changes, out)
     }
     fn occupancy(&self, image: &[u8], page: u64, out: &mut [u8]) -> Option<u64> {
         Some(breadcrumb::packed::occupancy(image, page, out))
@@ -142,6 +142,8 @@ pub struct Follower<'a> {
     pub tails_compared: u64,
     /// Moves among them, either way.
     pub moves_compared: u64,
+    /// Pages among them that are refused with 14.
+    pub stale_compared: u64,
     /// Rows compared beside them: their answers, and every byte of entries and image.
     pub rows_compared: u64,
     /// Occupancy pages compared beside them: their answers, and every byte of output and image.
@@ -157,6 +159,7 @@ impl<'a> Follower<'a> {
             compared: 0,
             tails_compared: 0,
             moves_compared: 0,
+            stale_compared: 0,
             rows_compared: 0,
             occupancy_compared: 0,
         }
@@ -169,7 +172,10 @@ impl<'a> Follower<'a> {
         if !line.is_call() {
             return;
         }
-        let text = line.text();
+        let mut text = line.text();
+        if let Line::Page { .. } = line {
+            text += &format!("which brings {}", expected.changes);
+        }
         assert_eq!(got, answer, "answer {got:016X} for {answer:016X}: {text}");
         assert_eq!(self.images.out, expected.out, "the output: {text}");
         for x in line.images() {
@@ -179,6 +185,7 @@ impl<'a> Follower<'a> {
         match line {
             Line::Tail { .. } => self.tails_compared += 1,
             Line::Attach { .. } | Line::Detach { .. } => self.moves_compared += 1,
+            Line::Page { .. } if answer >> 56 == 14 => self.stale_compared += 1,
             _ => {}
         }
         for make in [Beside::row, Beside::occupancy] {
@@ -241,6 +248,7 @@ impl<'a> Follower<'a> {
 
     /// A random history.
     pub fn history(&mut self, kind: Kind, b: u64, how_many: usize, seed: u64) {
+        self.images = Images::default();
         self.beside = Beside::new(seed);
         let mut observer = |line: Line, answer: u64, images: &Images| {
             self.follow(line, answer, images);
@@ -281,6 +289,7 @@ impl<'a> Follower<'a> {
 
     /// The shortest and the longest image of either form, and lengths on either side.
     pub fn ends(&mut self) {
+        self.images = Images::default();
         let mut observer = |line: Line, answer: u64, images: &Images| {
             self.follow(line, answer, images);
         };
@@ -385,9 +394,13 @@ fn calls_at_ends(p: &mut Player) {
         p.page(0, front, 40);
         p.page(0, front, 90);
     }
+    let right = p.changes(0);
     for start in [0, fronts - 1, fronts, fronts + 1] {
         p.page(0, start, 0);
         p.page(0, start, 100);
+        for stale in [right.wrapping_sub(1), right + 1, right + (1 << 32)] {
+            p.page_with(0, start, stale, 100);
+        }
     }
     p.tail(0, 2);
     p.check(0);

@@ -56,6 +56,8 @@ fn histories(catalogue: &dyn Catalogue, name: &str, calls: u64, seed: u64) {
     println!("({ends} of them on the shortest and the longest image)");
     let (tails, moves) = (follower.tails_compared, follower.moves_compared);
     println!("({tails} of them tails, {moves} moves between the forms)");
+    let stale = follower.stale_compared;
+    println!("({stale} of them pages refused with 14)");
     for (n, calls) in [
         (follower.rows_compared, "rows of asks"),
         (follower.occupancy_compared, "occupancy pages"),

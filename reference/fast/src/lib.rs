@@ -446,11 +446,14 @@ unsafe fn gather(image: &[u8], shape: Shape, f: u32, keys: &mut [u32; 72]) -> us
 }
 
 #[inline(never)]
-pub fn page(image: &[u8], start: u64, out: &mut [u64]) -> u64 {
-    let (shape, _) = match open(image) {
+pub fn page(image: &[u8], start: u64, changes: u64, out: &mut [u64]) -> u64 {
+    let (shape, tail) = match open(image) {
         Ok(opened) => opened,
         Err(refusal) => return refusal,
     };
+    if changes != tail.changes {
+        return refused(14);
+    }
     let fronts = shape.fronts();
     if start > fronts as u64 {
         return refused(6);

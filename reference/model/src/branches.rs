@@ -1,11 +1,13 @@
 //! The branches of the machine that a call takes, by name.
 //!
-//! The stored calls must take every one of `ALL` and of `TAILS`, the random rows and occupancy pages
-//! every one of `ROWS` and of `OCCUPANCY`; the stored ones too, but for those of `BEYOND_THREE`. The
-//! random histories must take every one of `TAILS`.
+//! The stored calls must take every one of `ALL`, of `TAILS` and of `WALKS`, the random rows and
+//! occupancy pages every one of `ROWS` and of `OCCUPANCY`; the stored ones too, but for those of
+//! `BEYOND_THREE`. The random histories must take every one of `TAILS` and of `WALKS`.
 
 mod tails;
+mod walks;
 pub use tails::TAILS;
+pub use walks::WALKS;
 
 use crate::bucket::{Bytes, Member};
 use crate::calls::{self, bag, member, members, read_backyard, read_front, Asked, Bag, Place};
@@ -1213,6 +1215,7 @@ pub fn of_occupancy(image: &[u8], page: u64, length: usize) -> Vec<String> {
 pub fn of(images: &Images, line: Line, number: u64) -> Vec<String> {
     let mut names = Names::default();
     tails::of(&mut names, images, line, number);
+    walks::of(&mut names, images, line, number);
     let is_row_or_page = matches!(line, Line::Row { .. } | Line::Occupancy { .. });
     if number < 11 || is_row_or_page {
         on_buckets(&mut names, images, line, number == 0);
@@ -1220,7 +1223,7 @@ pub fn of(images: &Images, line: Line, number: u64) -> Vec<String> {
     names.names
 }
 
-/// The branches of a line that tails have no part in, but for rows and occupancy pages.
+/// The branches of a line that tails and walks have no part in, but for rows and occupancy pages.
 fn on_buckets(names: &mut Names, images: &Images, line: Line, accepted: bool) {
     let image = |x: usize| -> &[u8] { &images.image[x] };
     match line {

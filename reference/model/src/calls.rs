@@ -433,9 +433,13 @@ pub fn members(image: &[u8], shape: Shape, f: u64) -> Result<Bag, Refusal> {
     Ok(all)
 }
 
-/// Lists whole front buckets from `start` on as far as they fit into the output.
-pub fn page(image: &[u8], start: u64, out: &mut [u64]) -> Result<Paged, Refusal> {
-    let (shape, _) = opened(image)?;
+/// Lists whole front buckets from `start` on as far as they fit into the output. `changes` is the
+/// change count that the walk began with.
+pub fn page(image: &[u8], start: u64, changes: u64, out: &mut [u64]) -> Result<Paged, Refusal> {
+    let (shape, tail) = opened(image)?;
+    if changes != tail.changes {
+        return refused(14);
+    }
     if start > shape.fronts() {
         return refused(6);
     }
@@ -505,7 +509,7 @@ fn checked(image: &[u8], shape: Shape, tail: Tail) -> Result<(), Refusal> {
 
 /// All buckets are sound, and no member of a backyard bucket is before its turn: the members in all
 /// buckets.
-fn checked_buckets(image: &[u8], shape: Shape) -> Result<u64, Refusal> {
+pub fn checked_buckets(image: &[u8], shape: Shape) -> Result<u64, Refusal> {
     let mut fronts = Vec::new();
     for f in 0..shape.fronts() {
         fronts.push(read_front(image, f)?);
@@ -596,6 +600,7 @@ mod tests {
     use super::*;
     use crate::prepare::{fresh_image, hash_of};
     use crate::random::Random;
+    use crate::shape::{MINIS, TAGS};
 
     const SHAPE: Shape = Shape { b: 3 };
 
@@ -828,6 +833,151 @@ mod tests {
         }
     }
 
+    /// The number of a page that is refused, and that it keeps the output.
+    fn page_number(image: &[u8], start: u64, changes: u64, length: usize) -> (u8, Option<u64>) {
+        let mut out = vec![7; length];
+        let Err(refusal) = page(image, start, changes, &mut out) else {
+            return (0, None);
+        };
+        assert_eq!(out, vec![7; length]);
+        (refusal.number, refusal.table)
+    }
+
+    #[test]
+    fn order_of_a_page() {
+        let top = u64::MAX;
+        // Start, length, and the number with the right count: 13 and 18 have 40 members each.
+        let pages = [
+            (0, 40, 0),
+            (24, 0, 0),
+            (13, 39, 7),
+            (25, 99, 6),
+            (top, 0, 6),
+        ];
+        for told in [0, 1, 80, (1 << 32) - 1, 1 << 32, 1 << 63, top - 1, top] {
+            let image = with(image(), 80, told);
+            let mut unsound = image.clone();
+            unsound[13 * BUCKET] ^= 1;
+            let mut bad = unsound.clone();
+            bad[SHAPE.old_length() + 16] = 2;
+            for (start, length, number) in pages {
+                let right = page_number(&image, start, told, length);
+                assert_eq!(right, (number, None));
+            }
+            assert_eq!(page_number(&unsound, 13, told, 99), (3, Some(13)));
+            let (less, more) = (told.wrapping_sub(1), told.wrapping_add(1));
+            for brought in [told, less, more, 0, top, told ^ 1 << 32, told ^ 1 << 63] {
+                for (start, length, _) in pages {
+                    let refusal = |image: &[u8]| page_number(image, start, brought, length);
+                    if brought != told {
+                        assert_eq!(refusal(&image), (14, None));
+                        assert_eq!(refusal(&unsound), (14, None));
+                    }
+                    assert_eq!(refusal(&bad), (11, None));
+                    assert_eq!(refusal(&bad[1..]), (1, None));
+                    assert_eq!(refusal(&bad[..SHAPE.old_length()]), (1, None));
+                }
+            }
+        }
+    }
+
+    /// A walk in pages of 40 entries, with what comes between them: what it listed, or the number of
+    /// the page that was refused.
+    fn walk(image: &mut [u8], between: impl Fn(&mut [u8])) -> Result<Vec<u64>, u8> {
+        let (_, changes) = told(image);
+        let (mut listed, mut next) = (Vec::new(), 0);
+        while next < SHAPE.fronts() {
+            let mut out = [0; 40];
+            let paged = page(image, next, changes, &mut out).map_err(|why| why.number)?;
+            listed.extend(&out[..paged.how_many as usize]);
+            next = paged.next;
+            between(image);
+        }
+        Ok(listed)
+    }
+
+    /// What a walk of `image()` lists.
+    fn listing() -> Vec<u64> {
+        let all = |f: u64| (0..40).map(move |tag| f * MINIS * TAGS + tag);
+        all(13).chain(all(18)).collect()
+    }
+
+    #[test]
+    fn undisturbed_walks() {
+        let quiet = |start: Vec<u8>, between: &dyn Fn(&mut [u8])| {
+            let mut image = start.clone();
+            assert_eq!(walk(&mut image, between), Ok(listing()));
+            assert_eq!(image, start);
+        };
+        let (filed, absent) = (hash(13, 0), hash(13, 40));
+        quiet(image(), &|_| {});
+        quiet(image(), &|image| {
+            assert_eq!(delete(image, absent).unwrap_err().number, 5);
+        });
+        quiet(with(image(), SHAPE.slots(), 80), &|image| {
+            assert_eq!(insert(image, filed).unwrap_err().number, 12);
+        });
+        quiet(with(image(), 0, 80), &|image| {
+            assert_eq!(delete(image, filed).unwrap_err().number, 12);
+        });
+        quiet(with(image(), 80, u64::MAX), &|image| {
+            assert_eq!(insert(image, filed).unwrap_err().number, 13);
+            assert_eq!(delete(image, filed).unwrap_err().number, 13);
+        });
+        quiet(image(), &|image| {
+            assert!(ask(image, filed).is_ok() && count(image, filed).is_ok());
+            assert!(check(image).is_ok() && lines(image, 0).len() == 24);
+            assert!(merge(image, &fresh_image(3), &mut fresh_image(3)).is_ok());
+            assert!(merge(&fresh_image(2), &fresh_image(2), image).is_err());
+            assert_eq!(page_number(image, 0, 79, 40), (14, None));
+            assert_eq!(page_number(image, 13, 80, 40), (0, None));
+        });
+    }
+
+    #[test]
+    fn disturbed_walks() {
+        // In a front bucket that is listed, in the next, and in one to come.
+        for f in [0, 13, 18, 23] {
+            let mut image = with(image(), 80, u64::MAX - 2);
+            let inserted = walk(&mut image, |image| {
+                insert(image, hash(f, 50)).unwrap();
+            });
+            let deleted = walk(&mut image, |image| {
+                delete(image, hash(f, 50)).unwrap();
+            });
+            assert_eq!([inserted, deleted], [Err(14), Err(14)]);
+            assert_eq!(walk(&mut image, |_| {}), Ok(listing()));
+        }
+        // Undone: all but the count is as before.
+        let mut changed = image();
+        let undone = walk(&mut changed, |image| {
+            insert(image, hash(5, 0)).unwrap();
+            delete(image, hash(5, 0)).unwrap();
+        });
+        assert_eq!(undone, Err(14));
+        assert_eq!(changed, with(image(), 80, 82));
+    }
+
+    /// Pages with different counts, each right in its time: the members at no one time.
+    #[test]
+    fn pages_that_make_no_walk() {
+        let mut image = image();
+        let first = page(&image, 0, 80, &mut [0; 40]).unwrap();
+        assert_eq!((first.how_many, first.next), (40, 18));
+        insert(&mut image, hash(5, 0)).unwrap();
+        assert_eq!(page_number(&image, 18, 80, 40), (14, None));
+        let second = page(&image, 18, 81, &mut [0; 40]).unwrap();
+        assert_eq!((second.how_many, second.next), (40, 24));
+        // A count that starts anew comes to the old one again.
+        fresh(&mut image).unwrap();
+        assert_eq!(page_number(&image, 18, 80, 40), (14, None));
+        for tag in 0..40 {
+            insert(&mut image, hash(5, tag)).unwrap();
+            delete(&mut image, hash(5, tag)).unwrap();
+        }
+        assert_eq!(page_number(&image, 18, 80, 40), (0, None));
+    }
+
     #[test]
     fn order_of_a_merge() {
         let good = fresh_image(3);
@@ -942,7 +1092,10 @@ mod tests {
             assert_eq!(check(image).unwrap_err().number, 11);
             assert_eq!(tail(image, &mut []).unwrap_err().number, 11);
             for start in [13, 25] {
-                assert_eq!(page(image, start, &mut []).unwrap_err().number, 11);
+                for changes in [80, 81] {
+                    let refusal = page(image, start, changes, &mut []).unwrap_err();
+                    assert_eq!(refusal.number, 11);
+                }
             }
             for page in [0, 1] {
                 assert_eq!(occupancy(image, page, &mut []).unwrap_err().number, 11);

@@ -1,8 +1,9 @@
 //! The calls that are stored for the program `trial`: document 01's cases one by one, then
 //! short random histories, then rows of three asks, then occupancy pages, then asks where copies
-//! stand, then tails and moves. Always the same lines.
+//! stand, then tails and moves, then walks. Always the same lines.
 
 mod tails;
+mod walks;
 
 use crate::bucket::{encode_backyard, encode_front, Member};
 use crate::fingerprint::Fingerprint;
@@ -901,6 +902,7 @@ pub fn input() -> String {
     occupancy_pages(p);
     copies(p);
     tails::tails(p);
+    walks::walks(p);
     text
 }
 
@@ -983,12 +985,13 @@ mod tests {
         let rows = branches::ROWS.iter();
         let rows = rows.filter(|name| !branches::BEYOND_THREE.contains(name));
         let all = branches::ALL.iter().chain(branches::TAILS);
+        let all = all.chain(branches::WALKS);
         let all = all.chain(rows).chain(branches::OCCUPANCY);
         let all: BTreeSet<String> = all.map(|name| name.to_string()).collect();
         let missing: Vec<&String> = all.difference(&met).collect();
         let unknown: Vec<&String> = met.difference(&all).collect();
         assert!(missing.is_empty(), "missing: {missing:#?}");
         assert!(unknown.is_empty(), "not named: {unknown:#?}");
-        assert_eq!(numbers, (0..=8).chain(10..=13).collect());
+        assert_eq!(numbers, (0..=8).chain(10..=14).collect());
     }
 }

@@ -32,8 +32,8 @@ pub trait Catalogue {
     fn row(&self, image: &[u8], row: &mut [Entry]) -> Option<u64>;
     /// Value: copies + 2^32 × reads.
     fn count(&self, image: &[u8], hash: u64) -> u64;
-    /// Value: how many + 2^32 × next.
-    fn page(&self, image: &[u8], start: u64, out: &mut [u64]) -> u64;
+    /// Value: how many + 2^32 × next. `changes` is the change count that the walk began with.
+    fn page(&self, image: &[u8], start: u64, changes: u64, out: &mut [u64]) -> u64;
     /// Value 0. Nothing where an implementation has no occupancy page.
     fn occupancy(&self, image: &[u8], page: u64, out: &mut [u8]) -> Option<u64>;
     /// Value 0.
@@ -111,8 +111,8 @@ impl Catalogue for Model {
         })
     }
 
-    fn page(&self, image: &[u8], start: u64, out: &mut [u64]) -> u64 {
-        pack(calls::page(image, start, out), |paged| {
+    fn page(&self, image: &[u8], start: u64, changes: u64, out: &mut [u64]) -> u64 {
+        pack(calls::page(image, start, changes, out), |paged| {
             paged.how_many + (paged.next << 32)
         })
     }

@@ -1,8 +1,8 @@
 //! Random histories: calls on images that are whole, damaged, or sound but never checked, with good
-//! tails and bad ones, and moves between the forms.
+//! tails and bad ones, moves between the forms, and walks with other calls between their pages.
 
 use crate::bucket::Member;
-use crate::calls::members;
+use crate::calls::{inserted, members};
 use crate::fingerprint::Fingerprint;
 use crate::prepare::{members_in, Player};
 use crate::random::Random;
@@ -27,9 +27,11 @@ pub enum Kind {
     Tails,
     /// Moves between the forms: of whole, damaged and unchecked images, into right and wrong lengths.
     Moves,
+    /// Walks by turns, with changes and other calls between their pages.
+    Walks,
 }
 
-pub const KINDS: [Kind; 8] = [
+pub const KINDS: [Kind; 9] = [
     Kind::Plain,
     Kind::Merging,
     Kind::Damaged,
@@ -38,6 +40,7 @@ pub const KINDS: [Kind; 8] = [
     Kind::Lengths,
     Kind::Tails,
     Kind::Moves,
+    Kind::Walks,
 ];
 
 /// The few front buckets and (mini-bucket, tag) pairs that a history keeps to, so that copies,
@@ -123,21 +126,7 @@ fn call(player: &mut Player, x: usize, pool: &Pool, inserts: u64) {
         30..=31 => {
             player.check(x);
         }
-        32..=42 => {
-            let fronts = pool.shape.fronts();
-            let near = g.front + player.random.below(2);
-            let start = match player.random.below(8) {
-                0 => player.random.below(fronts),
-                1 => fronts - player.random.below(2),
-                2 if player.random.one_in(3) => fronts + 1 + player.random.bits() % 3,
-                3 if player.random.one_in(3) => u64::MAX - player.random.below(2),
-                4 => near.saturating_sub(player.random.below(4)),
-                _ => near,
-            };
-            let lengths = [0, 1, 27, 28, 29, 40, 49, 50, 51, 72, 73, 100, 144, 200];
-            let length = *player.random.pick(&lengths);
-            player.page(x, start, length);
-        }
+        32..=42 => page(player, x, pool, g.front),
         43..=46 => {
             let hash = player.random.bits();
             player.play(Line::Ask { x, hash });
@@ -152,6 +141,38 @@ fn call(player: &mut Player, x: usize, pool: &Pool, inserts: u64) {
             player.insert(x, g);
         }
     }
+}
+
+/// A page of image x, mostly from about this front bucket on.
+fn page(player: &mut Player, x: usize, pool: &Pool, front: u64) {
+    let changes = brought(player, x);
+    let fronts = pool.shape.fronts();
+    let random = &mut player.random;
+    let near = front + random.below(2);
+    let start = match random.below(8) {
+        0 => random.below(fronts),
+        1 => fronts - random.below(2),
+        2 if random.one_in(3) => fronts + 1 + random.bits() % 3,
+        3 if random.one_in(3) => u64::MAX - random.below(2),
+        4 => near.saturating_sub(random.below(4)),
+        _ => near,
+    };
+    let lengths = [0, 1, 27, 28, 29, 40, 49, 50, 51, 72, 73, 100, 144, 200];
+    let length = *random.pick(&lengths);
+    player.page_with(x, start, changes, length);
+}
+
+/// The change count that a page of image x brings: mostly the right one, else one beside it, the
+/// one that the page before brought, one of the ends, or one that differs in a bit.
+fn brought(player: &mut Player, x: usize) -> u64 {
+    let (right, kept) = (player.changes(x), player.images.changes);
+    let random = &mut player.random;
+    if !random.one_in(5) {
+        return right;
+    }
+    let (less, more) = (right.wrapping_sub(1), right.wrapping_add(1));
+    let bit = right ^ 1 << random.below(64);
+    *random.pick(&[less, more, kept, 0, u64::MAX, bit])
 }
 
 fn calls(player: &mut Player, x: usize, pool: &Pool, how_many: usize) {
@@ -420,6 +441,109 @@ fn target(player: &mut Player, shape: Shape, length: fn(Shape) -> usize) {
     }
 }
 
+/// A walk of image 0: the change count that it began with, and the front bucket that it has come
+/// to.
+struct Walk {
+    changes: u64,
+    next: u64,
+}
+
+impl Walk {
+    fn begin(player: &Player) -> Walk {
+        let changes = player.changes(0);
+        Walk { changes, next: 0 }
+    }
+
+    /// The next page. After the last one, or a refusal, the walk begins anew; or it tries once more,
+    /// or takes the count that is right by now, which makes no walk.
+    fn step(&mut self, player: &mut Player, fronts: u64) {
+        let length = *player.random.pick(&[30, 50, 72, 100, 200]);
+        let answer = player.page_with(0, self.next, self.changes, length);
+        match (answer >> 56, player.random.below(4)) {
+            (0, _) if answer >> 32 < fronts => self.next = answer >> 32,
+            (7, _) | (14, 0) => {}
+            (14, 1) => self.changes = player.changes(0),
+            _ => *self = Walk::begin(player),
+        }
+    }
+}
+
+/// Two walks of image 0 by turns. Image 1 has some of its members, and image 2 is a target.
+fn walks(player: &mut Player, pool: &Pool, how_many: usize) {
+    let shape = pool.shape;
+    calls(player, 0, pool, how_many / 4);
+    player.copy(0, 1);
+    player.new_image(2, shape.length());
+    fill(player, 0, pool);
+    let mut walks = [Walk::begin(player), Walk::begin(player)];
+    for _ in 0..how_many / 2 {
+        let turn = player.random.below(2) as usize;
+        walks[turn].step(player, shape.fronts());
+        between(player, pool);
+    }
+}
+
+/// What comes between two pages of a walk: mostly nothing that changes image 0, else a change, one
+/// that is undone at once, or another start for image 0.
+fn between(player: &mut Player, pool: &Pool) {
+    let g = pool.fingerprint(&mut player.random);
+    match player.random.below(24) {
+        0 | 1 => call(player, 0, pool, 50),
+        2 => delete_a_member(player, 0, pool),
+        3 => {
+            player.insert(0, g);
+            player.delete(0, g);
+        }
+        4 | 5 => start_anew(player, pool),
+        6 | 7 => {
+            player.merge(0, 1, 2);
+        }
+        8 | 9 => refused_change(player, pool),
+        10..=12 => player.look(0, g),
+        13 => {
+            player.check(0);
+        }
+        14 => tail(player, 0),
+        15 | 16 => page(player, 0, pool, g.front),
+        _ => {}
+    }
+}
+
+/// Image 0 fresh, merged anew, moved to the old form and back, near the top change count, or with a
+/// total at its bound.
+fn start_anew(player: &mut Player, pool: &Pool) {
+    let near = player.random.below(3);
+    match player.random.below(6) {
+        0 => {
+            player.play(Line::Fresh { x: 0 });
+            fill(player, 0, pool);
+        }
+        1 => {
+            player.merge(1, 1, 0);
+        }
+        2 => {
+            player.new_image(2, pool.shape.old_length());
+            player.detach(0, 2);
+            player.attach(2, 0);
+            player.new_image(2, pool.shape.length());
+        }
+        3 => player.put_changes(0, u64::MAX - near),
+        4 => player.put_total(0, 0),
+        _ => player.put_total(0, pool.shape.slots()),
+    }
+}
+
+/// An insert that is full, or a delete of a value that is not there.
+fn refused_change(player: &mut Player, pool: &Pool) {
+    let front = *player.random.pick(&pool.fronts);
+    let (mini, tag) = (20, 65534);
+    let g = Fingerprint { front, mini, tag };
+    match inserted(&player.images.image[0], pool.shape, g) {
+        Ok(_) => player.delete(0, g),
+        Err(_) => player.insert(0, g),
+    };
+}
+
 fn merges(player: &mut Player, pool: &Pool) {
     for (x, y, z) in [(0, 1, 2), (0, 0, 2), (1, 0, 2)] {
         player.merge(x, y, z);
@@ -530,6 +654,7 @@ pub fn play(player: &mut Player, kind: Kind, b: u64, how_many: usize) {
         Kind::Lengths => lengths(player, &pool, how_many),
         Kind::Tails => tails(player, &pool, how_many),
         Kind::Moves => moves(player, &pool, how_many),
+        Kind::Walks => walks(player, &pool, how_many),
     }
 }
 
@@ -541,7 +666,7 @@ mod tests {
     use std::collections::BTreeSet;
 
     #[test]
-    fn every_branch_of_tails() {
+    fn every_branch_of_tails_and_walks() {
         let mut met = BTreeSet::new();
         let mut numbers = BTreeSet::new();
         let mut before = Images::default();
@@ -558,53 +683,10 @@ mod tests {
                 play(&mut player, kind, 1 + round % 8, 200);
             }
         }
-        let all = branches::TAILS.iter().map(|name| name.to_string());
+        let all = branches::TAILS.iter().chain(branches::WALKS);
+        let all = all.map(|name| name.to_string());
         let missing: Vec<String> = all.filter(|name| !met.contains(name)).collect();
         assert!(missing.is_empty(), "missing: {missing:#?}");
-        assert_eq!(numbers, (0..=8).chain(11..=13).collect());
-    }
-
-    /// What the tail of each image must tell by the calls accepted on it: total and change count.
-    #[derive(Default)]
-    struct Filed([(u64, u64); 3]);
-
-    impl Filed {
-        fn tell(&mut self, line: Line) {
-            let filed = &mut self.0;
-            match line {
-                Line::Fresh { x } => filed[x] = (0, 0),
-                Line::Insert { x, .. } => filed[x] = (filed[x].0 + 1, filed[x].1 + 1),
-                Line::Delete { x, .. } => filed[x] = (filed[x].0 - 1, filed[x].1 + 1),
-                Line::Merge { x, y, z } => filed[z] = (filed[x].0 + filed[y].0, 0),
-                _ => {}
-            }
-        }
-    }
-
-    #[test]
-    fn totals_over_histories() {
-        let mut filed = Filed::default();
-        let mut observer = |line: Line, answer: u64, images: &Images| {
-            if answer >> 56 == 0 {
-                filed.tell(line);
-            }
-            if let (Line::Merge { z, .. }, 4) = (line, answer >> 56) {
-                filed.tell(Line::Fresh { x: z });
-            }
-            let Some(&x) = line.images().last().filter(|_| line.is_call()) else {
-                return;
-            };
-            let shape = Shape::of_length(images.image[x].len()).expect("a good length");
-            let tail = crate::tail::Tail::of_image(&images.image[x], shape);
-            let tail = tail.map(|tail| (tail.total, tail.changes));
-            assert_eq!(tail, Some(filed.0[x]));
-            assert_eq!(members_in(&images.image[x], shape), Some(filed.0[x].0));
-        };
-        let mut player = Player::new(2, &mut observer);
-        for b in [1, 2, 3, 8, 20] {
-            for kind in [Kind::Plain, Kind::Merging] {
-                play(&mut player, kind, b, 400);
-            }
-        }
+        assert_eq!(numbers, (0..=8).chain(11..=14).collect());
     }
 }

@@ -23,6 +23,7 @@
 //! - `cases`: the calls that are stored for the program `trial`
 //! - `vectors`: calls of another model, replayed
 //! - `branches`: the branches of the machine that a call takes
+//! - `ledger`: what calls filed in each image, and its walks, for the tests
 //! - `random`, `sha256`: small helpers
 
 pub mod beside;
@@ -33,6 +34,8 @@ pub mod cases;
 pub mod catalogue;
 pub mod fingerprint;
 pub mod histories;
+#[cfg(test)]
+mod ledger;
 pub mod map;
 pub mod occupancy;
 pub mod prepare;

@@ -114,8 +114,23 @@ impl<'a> Player<'a> {
         self.play(Line::Count { x, hash });
     }
 
+    /// A page that brings the change count of its image.
     pub fn page(&mut self, x: usize, start: u64, length: usize) -> u64 {
+        self.page_with(x, start, self.changes(x), length)
+    }
+
+    /// A page that brings this change count.
+    pub fn page_with(&mut self, x: usize, start: u64, changes: u64, length: usize) -> u64 {
+        if self.images.changes != changes {
+            self.play(Line::Walk { changes });
+        }
         self.play(Line::Page { x, start, length })
+    }
+
+    /// The change count of image x, its tail good or bad; the one that pages bring now where it is
+    /// no image.
+    pub fn changes(&self, x: usize) -> u64 {
+        Tail::changes_in(&self.images.image[x]).unwrap_or(self.images.changes)
     }
 
     pub fn check(&mut self, x: usize) -> u64 {

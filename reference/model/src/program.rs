@@ -29,14 +29,17 @@ fn parse(line: &[u8]) -> Option<(u64, u64)> {
     }
 }
 
-/// Every member of the image, by pages from front bucket 0 to the end.
+/// Every member of the image, by one walk from front bucket 0 to the end.
 fn list(image: &[u8]) -> Result<Vec<u64>, Refusal> {
+    let mut tail = [0; 2];
+    calls::tail(image, &mut tail)?;
+    let [_, changes] = tail;
     let fronts = Shape { b: 3 }.fronts();
     let mut all = Vec::new();
     let mut next = 0;
     while next < fronts {
         let mut out = [0; 100];
-        let paged = calls::page(image, next, &mut out)?;
+        let paged = calls::page(image, next, changes, &mut out)?;
         all.extend(&out[..paged.how_many as usize]);
         next = paged.next;
     }

@@ -31,7 +31,8 @@ pub enum Line {
         x: usize,
         hash: u64,
     },
-    /// The output has `length` entries, entry i holding 2^64 - 1 - i before the call.
+    /// The page brings the change count of the last `Walk`, 0 before any. The output has `length`
+    /// entries, entry i holding 2^64 - 1 - i before the call.
     Page {
         x: usize,
         start: u64,
@@ -88,6 +89,10 @@ pub enum Line {
         x: usize,
         length: usize,
     },
+    /// The pages that follow bring this change count.
+    Walk {
+        changes: u64,
+    },
 }
 
 /// How far the hashes of a row lie apart: what is added to their two digits of 16 bits that tell
@@ -127,6 +132,7 @@ impl Line {
             Line::Attach { x, y } => (0x0D, x, y, 0, 0, 0),
             Line::Detach { x, y } => (0x0E, x, y, 0, 0, 0),
             Line::Tail { x, length } => (0x0F, x, 0, 0, 0, length),
+            Line::Walk { changes } => (0x10, 0, 0, 0, changes, 0),
         }
     }
 
@@ -138,11 +144,8 @@ impl Line {
     pub fn parse(text: &str) -> Option<Line> {
         let field = |from: usize, to: usize| u64::from_str_radix(text.get(from..to)?, 16).ok();
         let (operation, p) = (field(0, 2)?, field(5, 21)?);
-        let (x, y, z) = (
-            field(2, 3)? as usize,
-            field(3, 4)? as usize,
-            field(4, 5)? as usize,
-        );
+        let image = |at: usize| Some(field(at, at + 1)? as usize);
+        let (x, y, z) = (image(2)?, image(3)?, image(4)?);
         let q = field(21, 29)? as usize;
         let line = match operation {
             0x00 => Line::New { x, length: q },
@@ -173,6 +176,7 @@ impl Line {
             0x0D => Line::Attach { x, y },
             0x0E => Line::Detach { x, y },
             0x0F => Line::Tail { x, length: q },
+            0x10 => Line::Walk { changes: p },
             _ => return None,
         };
         (line.text().trim_end() == text).then_some(line)
@@ -183,6 +187,7 @@ impl Line {
         match self {
             Line::Merge { x, y, z } => vec![x, y, z],
             Line::Copy { x, y } | Line::Attach { x, y } | Line::Detach { x, y } => vec![x, y],
+            Line::Walk { .. } => vec![],
             _ => vec![self.fields().1],
         }
     }
@@ -191,16 +196,17 @@ impl Line {
     pub fn is_call(self) -> bool {
         !matches!(
             self,
-            Line::New { .. } | Line::Poke { .. } | Line::Copy { .. }
+            Line::New { .. } | Line::Poke { .. } | Line::Copy { .. } | Line::Walk { .. }
         )
     }
 }
 
-/// Three images, and what the last call was lent besides, as bytes: the output of a page, of an
-/// occupancy page or of a tail, or the fields of a row's entries.
+/// Three images, the change count that pages bring, and what the last call was lent besides, as
+/// bytes: the output of a page, of an occupancy page or of a tail, or the fields of a row's entries.
 #[derive(Clone, Default, PartialEq, Eq)]
 pub struct Images {
     pub image: [Vec<u8>; 3],
+    pub changes: u64,
     pub out: Vec<u8>,
 }
 
@@ -213,6 +219,7 @@ impl Images {
             Line::New { x, length } => image[x] = vec![0; length],
             Line::Poke { x, at, word } => image[x][at..at + 8].copy_from_slice(&word.to_le_bytes()),
             Line::Copy { x, y } => image[y] = image[x].clone(),
+            Line::Walk { changes } => self.changes = changes,
             Line::Insert { x, hash } => return catalogue.insert(&mut image[x], hash),
             Line::Delete { x, hash } => return catalogue.delete(&mut image[x], hash),
             Line::Ask { x, hash } => return catalogue.ask(&image[x], hash),
@@ -250,7 +257,7 @@ impl Images {
         let answer = match line {
             Line::Page { x, start, length } => {
                 let mut out = before(length);
-                let answer = catalogue.page(&self.image[x], start, &mut out);
+                let answer = catalogue.page(&self.image[x], start, self.changes, &mut out);
                 self.out = bytes(&out);
                 Some(answer)
             }
@@ -373,6 +380,7 @@ mod tests {
             Line::Attach { x: 2, y: 1 },
             Line::Detach { x: 0, y: 1 },
             Line::Tail { x: 1, length: 4 },
+            Line::Walk { changes: 1 << 63 },
         ] {
             let text = line.text();
             assert_eq!(text.len(), WIDTH + 1);
@@ -437,6 +445,33 @@ mod tests {
         assert_eq!(out[..13], *b"     0  0  0 ");
         assert_eq!(out[1006..], [b' ', b'\n', 7, 7]);
         assert_eq!(page(1, 253), (6 << 56, vec![7; 253]));
+    }
+
+    #[test]
+    fn a_walk_and_what_its_pages_bring() {
+        let mut images = Images::default();
+        let mut number = |line| images.perform(&Model, line) >> 56;
+        let page = Line::Page {
+            x: 0,
+            start: 0,
+            length: 1,
+        };
+        number(Line::New { x: 0, length: 1088 });
+        number(Line::Fresh { x: 0 });
+        assert_eq!(number(page), 0);
+        number(Line::Insert { x: 0, hash: 5 });
+        assert_eq!(number(page), 14);
+        let walk = Line::Walk { changes: 1 };
+        assert_eq!((number(walk), walk.is_call()), (0, false));
+        assert_eq!(
+            (walk.images(), images.answer(&Model, walk)),
+            (vec![], String::new())
+        );
+        assert_eq!(walk.text(), "10000000000000000000100000000\n");
+        let mut number = |line| images.perform(&Model, line) >> 56;
+        assert_eq!([number(page), number(page)], [0, 0]);
+        number(Line::Walk { changes: 2 });
+        assert_eq!(number(page), 14);
     }
 
     #[test]

@@ -25,13 +25,23 @@ impl Tail {
     /// byte that is not 0, or a total above the slots.
     pub fn of_image(image: &[u8], shape: Shape) -> Option<Tail> {
         let bytes = &image[shape.old_length()..];
-        let number = |at: usize| u64::from_le_bytes(bytes[at..at + 8].try_into().unwrap());
-        let tail = Tail {
-            total: number(0),
-            changes: number(8),
-        };
+        let [total, changes] = Tail::numbers_in(image);
+        let tail = Tail { total, changes };
         // Layout and rest are right exactly when the tail gives these bytes again.
         (tail.bytes() == *bytes && tail.total <= shape.slots()).then_some(tail)
+    }
+
+    /// Total and change count in the last 64 bytes, a good tail or a bad one.
+    pub fn numbers_in(image: &[u8]) -> [u64; 2] {
+        let bytes = &image[image.len() - TAIL..];
+        [0, 8].map(|at| u64::from_le_bytes(bytes[at..at + 8].try_into().unwrap()))
+    }
+
+    /// The change count of an image, its tail good or bad; nothing where no image has its length.
+    pub fn changes_in(image: &[u8]) -> Option<u64> {
+        Shape::of_length(image.len())?;
+        let [_, changes] = Tail::numbers_in(image);
+        Some(changes)
     }
 
     /// The total (bytes 0 to 7), the change count (8 to 15), the layout (16), then 0.
@@ -87,6 +97,20 @@ mod tests {
         for total in [1 << 32, 1 << 63, u64::MAX] {
             let tail = Tail { total, changes: 0 };
             assert_eq!(Tail::of_image(&with(tail), SHAPE), None);
+        }
+    }
+
+    #[test]
+    fn change_counts_of_any_tail() {
+        let mut image = with(Tail {
+            total: 5,
+            changes: 0x0304,
+        });
+        assert_eq!(Tail::changes_in(&image), Some(0x0304));
+        image[SHAPE.old_length() + 16] = 2;
+        assert_eq!(Tail::changes_in(&image), Some(0x0304));
+        for length in [0, 63, 2176, 2239] {
+            assert_eq!(Tail::changes_in(&image[..length]), None);
         }
     }
 

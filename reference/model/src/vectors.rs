@@ -1,8 +1,8 @@
 //! Replays calls of another model from text, and compares every answer and every byte.
 //!
 //! A line is `CALL = RESULT`; a line that begins with # starts a history, without images. `at level
-//! 13` in it is the stage of request C-13, and none that of document 01; what stands in [ ] is there
-//! from stage 13 on.
+//! 13` in it is the stage of request C-13, and none that of document 01. COPIES are there from stage
+//! 13 on, CHANGES from stage 15 on.
 //!
 //! ```text
 //! new R LENGTH         image R becomes so many zero bytes         = - SHA
@@ -11,7 +11,7 @@
 //! insert R HASH        delete R HASH                              = 0 ANSWER SHA
 //! ask R HASH           no slot: -                                 = 0 READS PLACE SLOT [COPIES] SHA
 //! count R HASH                                                    = 0 COPIES READS SHA
-//! page R S LENGTH      output entry i holds 2^64 - 1 - i before   = 0 HOW_MANY NEXT SHA SHA_OUTPUT
+//! page R S LENGTH [CHANGES]  entry i holds 2^64 - 1 - i before    = 0 HOW_MANY NEXT SHA SHA_OUTPUT
 //! merge R R2 R3        R3 is the target                           = 0 SHA SHA2 SHA3
 //! row R HASHES         an ENTRY is READS/PLACE/SLOT[/COPIES]      = 0 TOTAL ENTRIES SHA
 //! occupancy R P LENGTH output byte i holds i mod 251 before       = 0 SHA SHA_OUTPUT
@@ -25,7 +25,8 @@
 //!
 //! The images of the stages before 14 are old ones. They are replayed as images with a tail: `new`
 //! makes 64 bytes more, every call finds a good tail behind each image that it is lent, and digests
-//! are those of the bytes before the tail.
+//! are those of the bytes before the tail. A page of the stages before 15 brings the change count of
+//! its image.
 
 use crate::catalogue::{Catalogue, Entry};
 use crate::prepare::members_in;
@@ -40,6 +41,8 @@ type Images = HashMap<String, Vec<u8>>;
 const WITH_COPIES: u64 = 13;
 /// From this stage on the images that are told have a tail.
 const WITH_TAILS: u64 = 14;
+/// From this stage on a page tells the change count that it brings.
+const WITH_COUNTS: u64 = 15;
 
 /// What a replay found: the calls compared, and a text for each that differs.
 pub struct Replayed {
@@ -202,7 +205,7 @@ fn perform_lent(
     let image = images.get_mut(words[1]).expect("an image");
     Some(match words[0] {
         "page" | "occupancy" => {
-            let (result, output) = with_output(catalogue, image, words)?;
+            let (result, output) = with_output(catalogue, image, stage, words)?;
             (result, Some(output))
         }
         "row" => (row(catalogue, image, stage, words[2])?, None),
@@ -270,18 +273,28 @@ fn row(catalogue: &dyn Catalogue, image: &[u8], stage: u64, hashes: &str) -> Opt
 fn with_output(
     catalogue: &dyn Catalogue,
     image: &[u8],
+    stage: u64,
     words: &[&str],
 ) -> Option<(String, Vec<u8>)> {
     let (from, length) = (number(words[2]), number(words[3]));
     if words[0] == "page" {
         let mut out: Vec<u64> = (0..length).map(|i| u64::MAX - i).collect();
-        let answer = catalogue.page(image, from, &mut out);
+        let answer = catalogue.page(image, from, brought(image, stage, words), &mut out);
         let bytes = out.iter().flat_map(|x| x.to_le_bytes());
         return Some((text(answer, pair), bytes.collect()));
     }
     let mut out = output_before(length as usize);
     let answer = catalogue.occupancy(image, from, &mut out)?;
     Some((text(answer, nothing), out))
+}
+
+/// The change count that a page brings.
+fn brought(image: &[u8], stage: u64, words: &[&str]) -> u64 {
+    match stage < WITH_COUNTS {
+        // Where it is no image any count will do.
+        true => Tail::changes_in(image).unwrap_or(0),
+        false => number(words[4]),
+    }
 }
 
 /// The output of an occupancy page before the call.
@@ -408,5 +421,35 @@ mod tests {
         );
         let replayed = replay(&Model, &from);
         assert_eq!((replayed.compared, replayed.differences.len()), (7, 0));
+    }
+
+    #[test]
+    fn counts_from_stage_15_on() {
+        let mut image = fresh_image(1);
+        let (zeros, fresh, none) = (sha256(&[0; 1088]), sha256(&image), sha256(&[]));
+        Model.insert(&mut image, 0x1F);
+        let filed = sha256(&image);
+        let history = |stage: u64, count: &str, answer: &str| {
+            format!(
+                "# a at level {stage}: plain\n\
+                 new a 1088 = - {zeros}\n\
+                 fresh a = 0 {fresh}\n\
+                 insert a 1F = 0 0 {filed}\n\
+                 page a 8 0{count} = {answer} {filed} {none}\n",
+            )
+        };
+        for (stage, count, right, wrong) in [
+            (14, "", "0 0 8", "14"),
+            (15, " 1", "0 0 8", "14"),
+            (15, " 0", "14", "0 0 8"),
+            (15, " 18446744073709551615", "14", "0 0 8"),
+        ] {
+            let differ = |answer| {
+                replay(&Model, &history(stage, count, answer))
+                    .differences
+                    .len()
+            };
+            assert_eq!((differ(right), differ(wrong)), (0, 1));
+        }
     }
 }

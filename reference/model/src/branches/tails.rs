@@ -150,26 +150,32 @@ pub const TAILS: &[&str] = &[
 ];
 
 /// A line, the images that it is performed on, and the number that it gives.
-struct Performed<'a> {
-    images: &'a Images,
-    line: Line,
-    number: u64,
+pub(super) struct Performed<'a> {
+    pub(super) images: &'a Images,
+    pub(super) line: Line,
+    pub(super) number: u64,
 }
 
 impl<'a> Performed<'a> {
-    fn image(&self, x: usize) -> &'a [u8] {
+    pub(super) fn image(&self, x: usize) -> &'a [u8] {
         &self.images.image[x]
     }
 
     /// The packed answer where image x is as `change` leaves it.
-    fn answer_with(&self, x: usize, change: impl Fn(&mut Vec<u8>)) -> u64 {
+    pub(super) fn answer_with(&self, x: usize, change: impl Fn(&mut Vec<u8>)) -> u64 {
         let mut images = self.images.clone();
         change(&mut images.image[x]);
         images.perform(&Model, self.line)
     }
 
     /// Names the number that this one comes before: that of the changed image, if any.
-    fn before(&self, names: &mut Names, call: &str, x: usize, change: impl Fn(&mut Vec<u8>)) {
+    pub(super) fn before(
+        &self,
+        names: &mut Names,
+        call: &str,
+        x: usize,
+        change: impl Fn(&mut Vec<u8>),
+    ) {
         let (number, next) = (self.number, self.answer_with(x, change) >> 56);
         names.add_if(next > 0, &format!("{call}: {number} before {next}"));
     }
@@ -180,7 +186,7 @@ pub fn mend(image: &mut [u8]) {
     let Some(shape) = Shape::of_length(image.len()) else {
         return;
     };
-    let [total, changes] = numbers_of(image);
+    let [total, changes] = Tail::numbers_in(image);
     let total = total.min(shape.slots());
     Tail { total, changes }.write(image);
 }
@@ -192,13 +198,7 @@ fn set_total(image: &mut [u8]) {
     }
 }
 
-/// Total and change count of a tail, good or bad.
-fn numbers_of(image: &[u8]) -> [u64; 2] {
-    let tail = &image[image.len() - TAIL..];
-    [0, 8].map(|at| u64::from_le_bytes(tail[at..at + 8].try_into().expect("eight bytes")))
-}
-
-fn good_tail(image: &[u8]) -> Option<Tail> {
+pub(super) fn good_tail(image: &[u8]) -> Option<Tail> {
     Tail::of_image(image, Shape::of_length(image.len())?)
 }
 
@@ -240,7 +240,7 @@ fn bad_tail(names: &mut Names, image: &[u8]) {
             _ => "a byte within the rest",
         });
     }
-    match numbers_of(image)[0].saturating_sub(shape.slots()) {
+    match Tail::numbers_in(image)[0].saturating_sub(shape.slots()) {
         0 => {}
         1 => faults.push("total one above the slots"),
         _ => faults.push("total far above the slots"),

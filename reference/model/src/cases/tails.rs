@@ -7,13 +7,13 @@ use crate::shape::Shape;
 use crate::stored::Line;
 
 /// The slots of an image with B = 3.
-const SLOTS: u64 = 892;
+pub(super) const SLOTS: u64 = 892;
 /// Images with B = 3 of either form.
-const OLD: usize = 2176;
-const NEW: usize = 2240;
+pub(super) const OLD: usize = 2176;
+pub(super) const NEW: usize = 2240;
 
 /// A whole image: front bucket 13 is full with five behind it, 14 has nine.
-fn stocked(p: &mut Player, x: usize) {
+pub(super) fn stocked(p: &mut Player, x: usize) {
     p.fresh(x, 3);
     p.put_front(x, 13, full_front());
     p.put_front(x, 14, full_front()[..9].to_vec());
