@@ -1,14 +1,5 @@
 // The calls for C. Each gives one number, its answer packed: number × 2^56 + value, number 0 when accepted.
 
-pub mod pack;
-
-use crate::pack::asked;
-use crate::pack::counted;
-use crate::pack::done;
-use crate::pack::packed;
-use crate::pack::paged;
-use crate::pack::rowed;
-use crate::pack::tailed;
 use answers::Entry;
 use answers::pairs::changed;
 use breadcrumb::ask;
@@ -23,6 +14,13 @@ use breadcrumb::merge;
 use breadcrumb::occupancy;
 use breadcrumb::page;
 use breadcrumb::tail;
+use packing::pack::asked;
+use packing::pack::counted;
+use packing::pack::done;
+use packing::pack::packed;
+use packing::pack::paged;
+use packing::pack::rowed;
+use packing::pack::tailed;
 ghost use mathlib.Core.Path.{_≡_};
 ghost use lib.ListN.{length};
 ghost use Rattle.crumbmap.specs.Layouts.{known};
@@ -32,8 +30,8 @@ ghost use Rattle.form.specs.Calls.{freshOf, insertOf, deleteOf, askOf, countOf,
 ghost use Rattle.form.specs.Moves.{attachOf, detachOf};
 ghost use Rattle.answers.specs.Pairs.{answerValue};
 ghost use Rattle.answers.specs.Rows.{hashes, entriesOf};
-ghost use Rattle.capi.specs.Packing as P;
-ghost use Rattle.capi.specs.Totals.{tailInto};
+ghost use Rattle.packing.specs.Packing as P;
+ghost use Rattle.packing.specs.Totals.{tailInto};
 
 // The image becomes fresh.
 #[no_mangle]

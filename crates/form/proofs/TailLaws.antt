@@ -1,6 +1,6 @@
 -- A form is a body with a tail behind it: each is found again, and a tail of fit numbers reads as itself and is accepted.
 -- Main results: `body-form`, `rest-form`, `headed-form`, `opened-form`; what an accepted tail says, `headed-parts`, and that such an image is
--- its body with just that tail behind it, `form-again`.
+-- its body with just that tail behind it, `form-again`; which layout an opened image has, `opened-layout`, `opened-known`.
 use mathlib.Core.Path.{_≡_, refl, sym, _∙_}
 use Prim.Native.Nat.{ℕ, _-_, _^_, _≤_, _<_}
 use mathlib.Core.Bool.{Bool, true, false, cond, _&&_}
@@ -10,16 +10,16 @@ use native.Mathlib.Omega.{arith}
 use native.Mathlib.Nat.{add-sub-cancel}
 use lib.ListN.{length, take, drop, getD, length-append, length-drop, take-append-drop}
 use lib.Seq.{take-append-seam, drop-append-seam, length-take-le, take-add, take-suc, getD-drop}
-use lib.Dec.{T, lit<, leb}
+use lib.Dec.{T, lit<, leb, eqb}
 use borrow.Author.Tests.{le-leb, leb-true}
 use Rattle.multiset.specs.Multisets.{Below, allZero}
 use Rattle.multiset.specs.Digits.{digits, value, padded}
 use Rattle.multiset.proofs.MultisetLaws.{below-take, below-drop, below-of-at}
 use Rattle.multiset.proofs.DigitLaws.{value-digits, digits-value, padded-take}
-use Rattle.crumbmap.specs.Layouts.{Layout, Numbering}
+use Rattle.crumbmap.specs.Layouts.{Layout, Numbering, layout1, known}
 use Rattle.machine.specs.Results.{accepted, refused}
-use Rattle.machine.specs.Images.{sizeOf}
-use Rattle.machine.proofs.AcceptedLaws.{same-answer, never-refused}
+use Rattle.machine.specs.Images.{sizeOf, sized}
+use Rattle.machine.proofs.AcceptedLaws.{same-answer, never-refused, andThen-accepted}
 use Rattle.form.specs.Tails.{Tail, Header, body, rest, tailIn, tailBytes, markOf, slots, headerBy, headed, opened}
 
 pub length-tailBytes : (n : ℕ) (t : Tail) → length (tailBytes n t) ≡ 64
@@ -154,3 +154,16 @@ form-again layouts B img h e l bytes =
     let p = headed-parts layouts B img h e in
     let z : T (allZero (drop 17 (rest img))) = rw (p .zeros) tt in
     rw (p .number, p .tail, tailBytes-rest img l bytes z) (sym (body-rest img))
+
+-- the layout of an image that is opened is the one that its number names
+pub opened-layout : (layouts : Numbering) (img : List ℕ) (h : Header) → opened layouts img ≡ accepted h → layouts (h .number) ≡ some (h .layout)
+unfolding opened
+opened-layout layouts img h e = let s = andThen-accepted (sized (body img)) _ h e in headed-parts layouts (s .0) img h (s .2) .layout
+
+-- of the layouts that there are, layout 1
+pub opened-known : (img : List ℕ) (h : Header) → opened known img ≡ accepted h → h .layout ≡ layout1
+opened-known img h e = one (eqb (h .number) 1) (opened-layout known img h e)
+  where
+    one : (b : Bool) → cond b (some layout1) none ≡ some (h .layout) → h .layout ≡ layout1
+    one true k = cc
+    one false k = let z : _≡_ {A = ℕ} 0 1 = cc in absurd (omega arith)

@@ -9,14 +9,14 @@ use lib.ListN.{length}
 use lib.Dec.{eqb, ltb}
 use Rattle.crumbmap.specs.Layouts.{Layout, layout1, known, mostMembers, fronts}
 use Rattle.machine.specs.Results.{accepted, refused}
-use Rattle.machine.specs.Images.{sized, sizeOf, lengthOf}
+use Rattle.machine.specs.Images.{sizeOf, lengthOf}
 use Rattle.machine.specs.Pages.{Run, pageFrom}
 use Rattle.machine.specs.Calls as M
 use Rattle.machine.proofs.AcceptedLaws.{same-answer, andThen-accepted}
 use Rattle.machine.proofs.RoomLaws.{run-whole}
-use Rattle.form.specs.Tails.{Header, body, opened}
+use Rattle.form.specs.Tails.{body, opened}
 use Rattle.form.specs.Calls.{pageOf, tailOf}
-use Rattle.form.proofs.TailLaws.{length-body, headed-parts}
+use Rattle.form.proofs.TailLaws.{length-body, opened-layout}
 use Rattle.form.proofs.WalkLaws.{unchanged-accepted}
 use Rattle.frame.specs.Frames.{room, listOf}
 
@@ -44,16 +44,11 @@ body-whole L b r h l e =
     let k = andThen-accepted {A = Run} _ _ r (rw l at e) in
     page-end (k .0) r (run-whole L 3 24 0 room b (k .0) h (k .1)) (k .2)
 
--- the layout of an image that is opened is one that there is
-opened-known : (img : List ℕ) (h : Header) → opened known img ≡ accepted h → known (h .number) ≡ some (h .layout)
-unfolding opened
-opened-known img h e = let s = andThen-accepted (sized (body img)) _ h e in headed-parts known (s .0) img h (s .2) .layout
-
 pub list-whole : (img : List ℕ) (r : Run) → length img ≡ 2240 → listOf img ≡ accepted r → r .next ≡ 24
 unfolding listOf pageOf
 list-whole img r l e =
     let t = andThen-accepted (tailOf known img) _ r e in
     let o = andThen-accepted (opened known img) _ r (t .2) in
     let b : length (body img) ≡ 2176 = omega (arith, length-body img) in
-    body-whole (o .0 .layout) (body img) r (known-room (o .0 .number) (o .0 .layout) (opened-known img (o .0) (o .1))) b
+    body-whole (o .0 .layout) (body img) r (known-room (o .0 .number) (o .0 .layout) (opened-layout known img (o .0) (o .1))) b
     (unchanged-accepted (o .0 .tail .changes) (t .0 .changes) _ (o .2) .1)

@@ -5,11 +5,10 @@ use Prim.Native.Nat.{ℕ}
 use mathlib.Core.Bool.{Bool, true, false, cond, _&&_}
 use mathlib.Core.List.{List, map}
 use mathlib.Core.Option.{Option, none, some}
-use native.Mathlib.Omega.{arith}
 use lib.ListN.{length, drop}
-use lib.Dec.{leb, eqb}
+use lib.Dec.{leb}
 use Rattle.multiset.specs.Multisets.{allZero}
-use Rattle.crumbmap.specs.Layouts.{Layout, Numbering, layout1, known}
+use Rattle.crumbmap.specs.Layouts.{Layout, Numbering}
 use Rattle.crumbmap.specs.Fingerprints.{frontOf}
 use Rattle.machine.specs.Results.{Result, accepted, refused, andThen, orRefused}
 use Rattle.machine.specs.Images.{sizeOf}
@@ -18,7 +17,6 @@ use Rattle.machine.specs.Rows.{Row, descends}
 use Rattle.machine.proofs.AcceptedLaws.{never-refused, test-passed}
 use Rattle.form.specs.Tails.{Header, body, rest, tailIn, markOf, slots, headerBy, headed, opened}
 use Rattle.form.specs.Calls.{rowOf}
-use Rattle.form.proofs.TailLaws.{headed-parts}
 
 -- an image of layout L, where it can be opened
 abbrev pub Only : Layout → Numbering → List ℕ → Type 0
@@ -81,17 +79,3 @@ module _ (layouts : Numbering) (img : List ℕ) where
         go (some B) (accepted h) s q = sym (ap (λ (M : Layout). R.rowOf M (body img) ks) (only h q)) ∙ sym (row-opened q) ∙ e
         go (some B) (refused n i) s q =
             absurd (never-refused (sym (test-passed (descends 0 (map (frontOf B) ks)) 10 0 (sym (row-barred s q) ∙ e))))
-
--- ---- layout 1, the one that there is
-
-pub only-known : (img : List ℕ) → Only layout1 known img
-unfolding opened
-only-known img h e = go (sizeOf (length (body img))) refl e
-  where
-    one : (n : ℕ) (b : Bool) → cond b (some layout1) none ≡ some (h .layout) → h .layout ≡ layout1
-    one n true k = cc
-    one n false k = let z : _≡_ {A = ℕ} 0 1 = cc in absurd (omega arith)
-
-    go : (o : Option ℕ) → sizeOf (length (body img)) ≡ o → (andThen (orRefused 1 o) λ B. headed known B img) ≡ accepted h → h .layout ≡ layout1
-    go none s e = absurd (never-refused (sym e))
-    go (some B) s e = one (h .number) (eqb (h .number) 1) (headed-parts known B img h e .layout)

@@ -2,13 +2,13 @@
 // here with entries by value, in the same order.
 
 use answers::Entry;
-use capi::pack::packed;
-use capi::pack::rowed;
 use grouping::State;
 use grouping::turn::begin;
 use grouping::turn::outcome;
 use grouping::turn::resume;
 use grouping::turn::turn;
+use packing::pack::packed;
+use packing::pack::rowed;
 use std::num::wrapping_add_u64;
 use stored::Outcome;
 use stored::sum::of_page;

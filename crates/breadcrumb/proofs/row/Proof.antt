@@ -44,13 +44,13 @@ use denote.Signature.{plain}
 use Rattle.crumbmap.specs.Layouts.{layout1, known}
 use Rattle.buckets.proofs.BucketLaws.{fits1}
 use Rattle.form.specs.Tails as form
+use Rattle.form.proofs.TailLaws.{opened-known}
 use Rattle.answers.specs.Rows.{rowedOf, Rows}
 use Rattle.answers.specs.declared.Entry.{Entry}
 use Rattle.answers.specs.declared.RowResult.{RowResult}
 use Rattle.grouping.specs.Steps.Grouping.{begun, resumed, resultOf}
 use Rattle.grouping.specs.declared.State.{State}
 use Rattle.rows.specs.Steps.Sweeps.{AllReady}
-use Rattle.rows.proofs.FormRowLaws.{only-known}
 use Rattle.rows.proofs.Swept.{Leaves, ready-first, ready-second, ready-third, rowed}
 use Rattle.rows.proofs.Lending as lending
 use Rattle.rows.proofs.Lending.{lent, back}
@@ -306,7 +306,7 @@ module _ {M : Type 1} (𝓤 : URA M) (H : Heap 𝓤) (A : Atoms 𝓤) (W : Given
             -- the third sweep
             move ! (0 ∷ 3 ∷ 1 ∷ 2 ∷ []) $
             lent T.the-row κ κ′ q q′ img b o γ 𝓤 H A W zs₂ ! tt (λ ν₃ δ₃. Sweep 𝓤 H A mem run .pre (to s₂ zs₂ ν₃ δ₃))
-            (asks s₂ zs₂ (ready-third layout1 (img .now) ys s₀ f₀ r₁ s₁ zs₁ e₁ f₁ r₂ s₂ zs₂ e₂ f₂ (only-known (img .now))) (told s₂ v₂ at₂)) (λ ν₃ δ₃.
+            (asks s₂ zs₂ (ready-third layout1 (img .now) ys s₀ f₀ r₁ s₁ zs₁ e₁ f₁ r₂ s₂ zs₂ e₂ f₂ (opened-known (img .now))) (told s₂ v₂ at₂)) (λ ν₃ δ₃.
             calls-at ! fm (Sweep 𝓤 H A mem run) known-sweep (to s₂ zs₂ ν₃ δ₃) (and-then ! (load ! (from ! (stop !)) (look ! 29 refl))
             (and-then ! (load ! (from ! (stop !)) (look ! 5 refl)) (and-then ! (load ! (from ! (stop !)) (look ! 9 refl)) (no-more !)))) (λ w₃.
             back T.the-row κ κ′ q q′ img b o γ 𝓤 H A W zs₂ S.the-row Last (λ ws. ws .1 .0) (λ ws. fsep ftrue ftrue)
@@ -331,7 +331,7 @@ module _ {M : Type 1} (𝓤 : URA M) (H : Heap 𝓤) (A : Atoms 𝓤) (W : Given
             move ! (11 ∷ 12 ∷ []) $ free1 ! $ move ! (9 ∷ 10 ∷ []) $ free1 ! $ move ! (7 ∷ 8 ∷ []) $ free1 ! $
             free0 ! $ keep ! (0 ∷ 1 ∷ 2 ∷ 3 ∷ 4 ∷ []) $
             by ! (exits r v₃ zs₃ (n₃ ∙ n₂ ∙ n₁)
-            (rowed layout1 (img .now) ys s₀ f₀ r₁ s₁ zs₁ e₁ f₁ r₂ s₂ zs₂ e₂ f₂ (only-known (img .now)) r₃ zs₃ r e₃ f₃)))))))))))))))))))
+            (rowed layout1 (img .now) ys s₀ f₀ r₁ s₁ zs₁ e₁ f₁ r₂ s₂ zs₂ e₂ f₂ (opened-known (img .now)) r₃ zs₃ r e₃ f₃)))))))))))))))))))
 
       walk : ent 𝓤 (onEntry 𝓤 H A f.signature (κ, (κ′, tt)) (q, (q′, tt)) a vals) (WpFn 𝓤 H C Λ short (vi ∷ vr n ∷ []) Post)
       walk =

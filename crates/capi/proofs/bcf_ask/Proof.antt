@@ -1,7 +1,7 @@
 -- `bcf_ask` packs what an ask gives.
 use mathlib.Core.Path.{_∙_}
-use Rattle.capi.proofs.ResultLaws.{within-packs}
-use Rattle.capi.proofs.FitLaws.{ask-fits}
+use Rattle.packing.proofs.ResultLaws.{within-packs}
+use Rattle.packing.proofs.FitLaws.{ask-fits}
 use borrow.Author.Needs.{needs}
 use Rattle.capi.proofs.bcf_ask.Statement.{statement}
 use Rattle.capi.proofs.bcf_ask.Tie as tie

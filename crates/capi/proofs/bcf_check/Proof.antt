@@ -1,7 +1,7 @@
 -- `bcf_check` packs what a check gives.
 use mathlib.Core.Path.{_∙_}
-use Rattle.capi.proofs.ResultLaws.{within-packs}
-use Rattle.capi.proofs.FitLaws.{check-fits}
+use Rattle.packing.proofs.ResultLaws.{within-packs}
+use Rattle.packing.proofs.FitLaws.{check-fits}
 use borrow.Author.Needs.{needs}
 use Rattle.capi.proofs.bcf_check.Statement.{statement}
 use Rattle.capi.proofs.bcf_check.Tie as tie

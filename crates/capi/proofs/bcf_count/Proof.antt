@@ -1,7 +1,7 @@
 -- `bcf_count` packs what a count gives.
 use mathlib.Core.Path.{_∙_}
-use Rattle.capi.proofs.ResultLaws.{within-packs}
-use Rattle.capi.proofs.FitLaws.{count-fits}
+use Rattle.packing.proofs.ResultLaws.{within-packs}
+use Rattle.packing.proofs.FitLaws.{count-fits}
 use borrow.Author.Needs.{needs}
 use Rattle.capi.proofs.bcf_count.Statement.{statement}
 use Rattle.capi.proofs.bcf_count.Tie as tie

@@ -6,9 +6,9 @@ use Rattle.crumbmap.specs.Layouts.{known}
 use Rattle.machine.specs.Results.{Result}
 use Rattle.form.specs.Calls.{freshOf}
 use Rattle.answers.specs.Pairs.{saidOf}
-use Rattle.capi.specs.Packing.{nothing}
-use Rattle.capi.proofs.ResultLaws.{within-packs, said-done}
-use Rattle.capi.proofs.FitLaws.{fresh-fits}
+use Rattle.packing.specs.Packing.{nothing}
+use Rattle.packing.proofs.ResultLaws.{within-packs, said-done}
+use Rattle.packing.proofs.FitLaws.{fresh-fits}
 use borrow.Author.Needs.{needs}
 use Rattle.capi.proofs.bcf_fresh.Statement.{statement}
 use Rattle.capi.proofs.bcf_fresh.Tie as tie

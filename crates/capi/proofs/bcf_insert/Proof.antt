@@ -4,8 +4,8 @@ use Rattle.crumbmap.specs.Layouts.{known}
 use Rattle.form.specs.Calls.{insertOf}
 use Rattle.answers.specs.Pairs.{saidOf, answerValue}
 use Rattle.answers.proofs.PairLaws.{said-changed}
-use Rattle.capi.proofs.ResultLaws.{within-packs}
-use Rattle.capi.proofs.FitLaws.{insert-fits}
+use Rattle.packing.proofs.ResultLaws.{within-packs}
+use Rattle.packing.proofs.FitLaws.{insert-fits}
 use borrow.Author.Needs.{needs}
 use Rattle.capi.proofs.bcf_insert.Statement.{statement}
 use Rattle.capi.proofs.bcf_insert.Tie as tie

@@ -6,9 +6,9 @@ use Rattle.machine.specs.Results.{Result}
 use Rattle.machine.specs.Pages.{Run}
 use Rattle.form.specs.Calls.{pageOf}
 use Rattle.answers.specs.Pairs.{saidOf}
-use Rattle.capi.specs.Packing.{runWord}
-use Rattle.capi.proofs.ResultLaws.{within-packs, within-mapped, said-paged}
-use Rattle.capi.proofs.FitLaws.{page-fits}
+use Rattle.packing.specs.Packing.{runWord}
+use Rattle.packing.proofs.ResultLaws.{within-packs, within-mapped, said-paged}
+use Rattle.packing.proofs.FitLaws.{page-fits}
 use borrow.Author.Needs.{needs}
 use Rattle.capi.proofs.bcf_page.Statement.{statement}
 use Rattle.capi.proofs.bcf_page.Tie as tie

@@ -53,9 +53,9 @@ use Rattle.rows.proofs.Lending as lending
 use Rattle.rows.proofs.Lending.{lent, back}
 use Rattle.rows.proofs.Types.{image-ty, row-ty, ptr-ty, lent-ty}
 use Rattle.rows.proofs.Called.{asks as value-asks, asks-that, gives}
-use Rattle.capi.specs.Packing.{pack, packed, Packs, rowWord}
-use Rattle.capi.proofs.ResultLaws.{within-packs, said-rowed}
-use Rattle.capi.proofs.FitLaws.{row-fits}
+use Rattle.packing.specs.Packing.{pack, packed, Packs, rowWord}
+use Rattle.packing.proofs.ResultLaws.{within-packs, said-rowed}
+use Rattle.packing.proofs.FitLaws.{row-fits}
 use Rattle.answers.proofs.Entry as T
 use Rattle.answers.proofs.RowResult as R
 use Rattle.answers.proofs.RowResult.Laws as R′
@@ -65,14 +65,14 @@ use Rattle.breadcrumb.proofs.row as asks-row
 use Rattle.breadcrumb.proofs.row.Symbol as row-def
 use Rattle.breadcrumb.proofs.row.Symbol.{name as #breadcrumb·row}
 use Rattle.breadcrumb.proofs.row.Met as row-thm
-use Rattle.capi.proofs.pack.rowed as rowed
-use Rattle.capi.proofs.pack.rowed.Symbol as rowed-def
-use Rattle.capi.proofs.pack.rowed.Symbol.{name as #capi·pack·rowed}
-use Rattle.capi.proofs.pack.rowed.Met as rowed-thm
-use Rattle.capi.proofs.pack.packed as packs
-use Rattle.capi.proofs.pack.packed.Symbol as packed-def
-use Rattle.capi.proofs.pack.packed.Symbol.{name as #capi·pack·packed}
-use Rattle.capi.proofs.pack.packed.Met as packed-thm
+use Rattle.packing.proofs.pack.rowed as rowed
+use Rattle.packing.proofs.pack.rowed.Symbol as rowed-def
+use Rattle.packing.proofs.pack.rowed.Symbol.{name as #packing·pack·rowed}
+use Rattle.packing.proofs.pack.rowed.Met as rowed-thm
+use Rattle.packing.proofs.pack.packed as packs
+use Rattle.packing.proofs.pack.packed.Symbol as packed-def
+use Rattle.packing.proofs.pack.packed.Symbol.{name as #packing·pack·packed}
+use Rattle.packing.proofs.pack.packed.Met as packed-thm
 use Rattle.capi.proofs.bcf_row.Key.{name as #capi·bcf-row}
 use Rattle.capi.proofs.bcf_row as f
 use Rattle.capi.proofs.bcf_row.Statement as stated
@@ -208,8 +208,8 @@ module _ {M : Type 1} (𝓤 : URA M) (H : Heap 𝓤) (A : Atoms 𝓤) (W : Given
       nothing ! $ move ! (2 ∷ 0 ∷ []) $ fjoin ! $ move ! (2 ∷ 0 ∷ []) $ fjoin ! $ frame ! $ done !
 
   module _ (𝓣 : Tables 𝓤 H) (known-row : Triple 𝓤 (𝓣 .C #breadcrumb·row) (Asks 𝓤 H A mem run))
-      (known-rowed : Triple 𝓤 (𝓣 .C #capi·pack·rowed) (Rowed 𝓤 H A mem run))
-      (known-packed : Triple 𝓤 (𝓣 .C #capi·pack·packed) (Packed 𝓤 H A mem run)) (room : Room T.the-row n) where
+      (known-rowed : Triple 𝓤 (𝓣 .C #packing·pack·rowed) (Rowed 𝓤 H A mem run))
+      (known-packed : Triple 𝓤 (𝓣 .C #packing·pack·packed) (Packed 𝓤 H A mem run)) (room : Room T.the-row n) where
     abbrev C : Calls 𝓤 H
     C = 𝓣 .C
 
@@ -289,8 +289,8 @@ module _ {M : Type 1} (𝓤 : URA M) (H : Heap 𝓤) (A : Atoms 𝓤) (W : Given
 
 module _ {M : Type 1} (𝓤 : URA M) (H : Heap 𝓤) (A : Atoms 𝓤) (W : Given 𝓤 H A) (mem : Memory → SProp 𝓤) (run : Routine → Fun 𝓤)
     (𝓣 : Tables 𝓤 H) (known-row : Triple 𝓤 (𝓣 .C #breadcrumb·row) (Asks 𝓤 H A mem run))
-    (known-rowed : Triple 𝓤 (𝓣 .C #capi·pack·rowed) (Rowed 𝓤 H A mem run))
-    (known-packed : Triple 𝓤 (𝓣 .C #capi·pack·packed) (Packed 𝓤 H A mem run)) where
+    (known-rowed : Triple 𝓤 (𝓣 .C #packing·pack·rowed) (Rowed 𝓤 H A mem run))
+    (known-packed : Triple 𝓤 (𝓣 .C #packing·pack·packed) (Packed 𝓤 H A mem run)) where
   bcf-row-walks : Walks 𝓤 H A f.ended stayed (WpFn 𝓤 H (𝓣 .C) (𝓣 .Λ) code.function) (f.clauses 𝓤 H A mem run)
   bcf-row-walks = walked 𝓤 H A f.ended stayed (f.clauses 𝓤 H A mem run) (WpFn 𝓤 H (𝓣 .C) (𝓣 .Λ) code.function)
       (λ κs. (slice-vals, (slice-vals, tt)))
@@ -315,7 +315,7 @@ bcf-row-spec 𝓤 H 𝓜 𝓖 𝓡 =
     (bcf-row-meets 𝓤 H (𝓖 .A) (givenOf 𝓤 H 𝓜 𝓖) (𝓜 .mem) (𝓡 .run) (tablesOf 𝓤 H 𝓜 (tables 𝓤 H 𝓜 𝓡 code.env))
     (cited 𝓤 H (Asks 𝓤 H (𝓖 .A) (𝓜 .mem) (𝓡 .run)) 𝓜 𝓡 code.env #breadcrumb·row row-def.routine code.calls-breadcrumb·row
     (row-thm.met 𝓤 H 𝓜 𝓖 𝓡))
-    (cited 𝓤 H (Rowed 𝓤 H (𝓖 .A) (𝓜 .mem) (𝓡 .run)) 𝓜 𝓡 code.env #capi·pack·rowed rowed-def.routine code.calls-capi·pack·rowed
+    (cited 𝓤 H (Rowed 𝓤 H (𝓖 .A) (𝓜 .mem) (𝓡 .run)) 𝓜 𝓡 code.env #packing·pack·rowed rowed-def.routine code.calls-packing·pack·rowed
     (rowed-thm.met 𝓤 H 𝓜 𝓖 𝓡))
-    (cited 𝓤 H (Packed 𝓤 H (𝓖 .A) (𝓜 .mem) (𝓡 .run)) 𝓜 𝓡 code.env #capi·pack·packed packed-def.routine code.calls-capi·pack·packed
+    (cited 𝓤 H (Packed 𝓤 H (𝓖 .A) (𝓜 .mem) (𝓡 .run)) 𝓜 𝓡 code.env #packing·pack·packed packed-def.routine code.calls-packing·pack·packed
     (packed-thm.met 𝓤 H 𝓜 𝓖 𝓡)))

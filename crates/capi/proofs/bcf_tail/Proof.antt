@@ -1,8 +1,8 @@
 -- `bcf_tail` packs what a tail gives, and its output is the one that `tailed` leaves.
 use mathlib.Core.Path.{_∙_}
 use lib.ListN.{length}
-use Rattle.capi.proofs.ResultLaws.{within-packs}
-use Rattle.capi.proofs.FitLaws.{tail-fits}
+use Rattle.packing.proofs.ResultLaws.{within-packs}
+use Rattle.packing.proofs.FitLaws.{tail-fits}
 use borrow.Author.Needs.{needs}
 use Rattle.capi.proofs.bcf_tail.Statement.{statement}
 use Rattle.capi.proofs.bcf_tail.Tie as tie

@@ -6,12 +6,12 @@ use Prim.Native.Nat.{ℕ}
 use Rattle.crumbmap.specs.Layouts.{layout1, known}
 use Rattle.buckets.proofs.BucketLaws.{fits1}
 use Rattle.form.specs.Calls.{rowOf}
+use Rattle.form.proofs.TailLaws.{opened-known}
 use Rattle.answers.specs.Rows.{hashes, Rows}
 use Rattle.answers.specs.declared.Entry.{Entry}
-use Rattle.rows.proofs.FormRowLaws.{only-known}
 use Rattle.rows.proofs.Swept.{ready-first, ready-second, ready-third, rowed}
-use Rattle.capi.proofs.FitLaws.{row-fits}
-use Rattle.capi.proofs.ResultLaws.{within-packs, said-rowed}
+use Rattle.packing.proofs.FitLaws.{row-fits}
+use Rattle.packing.proofs.ResultLaws.{within-packs, said-rowed}
 use Rattle.trio.specs.Rows.{listed}
 use Rattle.trio.proofs.row.Statement.{statement}
 use Rattle.trio.proofs.row.Tie as tie
@@ -43,7 +43,7 @@ sweep-requires-3 c κs =
     let r = p .sweep .result in
     let t = q .sweep2 .result in
     ready-third layout1 (image b) (entries b) (b .begin .result) (b .begin .ensures) (r .state) (d .resume .result) (listed (r .row)) (p .sweep .ensures)
-    (d .resume .ensures) (t .state) (c .resume2 .result) (listed (t .row)) (q .sweep2 .ensures) (c .resume2 .ensures) (only-known (image b))
+    (d .resume .ensures) (t .state) (c .resume2 .result) (listed (t .row)) (q .sweep2 .ensures) (c .resume2 .ensures) (opened-known (image b))
 
 -- what the row gives
 rows : (c : tie.After-outcome) → let b = c .before .before .before .before .before .before in
@@ -59,7 +59,7 @@ rows c =
     let t = q .sweep2 .result in
     let u = w .sweep3 .result in
     rowed layout1 (image b) (entries b) (b .begin .result) (b .begin .ensures) (r .state) (d .resume .result) (listed (r .row)) (p .sweep .ensures)
-    (d .resume .ensures) (t .state) (g .resume2 .result) (listed (t .row)) (q .sweep2 .ensures) (g .resume2 .ensures) (only-known (image b)) (u .state)
+    (d .resume .ensures) (t .state) (g .resume2 .result) (listed (t .row)) (q .sweep2 .ensures) (g .resume2 .ensures) (opened-known (image b)) (u .state)
     (listed (u .row)) (c .outcome .result) (w .sweep3 .ensures) (c .outcome .ensures)
 
 packed-requires : tie.Need-packed-requires

@@ -19,7 +19,7 @@ use Rattle.answers.specs.Pairs.{saidOf, itself}
 use Rattle.answers.specs.Rows.{rowedOf, totalOf}
 use Rattle.answers.specs.declared.pairs.Said.{Said}
 use Rattle.answers.proofs.PairLaws.{said-mapped}
-use Rattle.capi.specs.Packing.{Within, taken, barred, Packs, nothing, extentWord, runWord, rowWord}
+use Rattle.packing.specs.Packing.{Within, taken, barred, Packs, nothing, extentWord, runWord, rowWord}
 
 -- what a result within bounds says
 pub within-accepted : {A : Type 0} {v : A → ℕ} {n : ℕ} {a : A} → Within v n (accepted a) → v a < n

@@ -17,8 +17,8 @@ ghost use Rattle.machine.specs.OccupancyPages.{printed};
 ghost use Rattle.answers.specs.Answers.{outcomeOf, placeOf, askedOf, countedOf, pagedOf, tailedOf};
 ghost use Rattle.answers.specs.Pairs.{saidOf, itself};
 ghost use Rattle.answers.specs.Rows.{rowedOf};
-ghost use Rattle.capi.specs.Packing.{pack, Packs, Within, nothing, placeWord, askWord, countWord, extentWord};
-ghost use Rattle.capi.specs.Totals.{toldInto};
+ghost use Rattle.packing.specs.Packing.{pack, Packs, Within, nothing, placeWord, askWord, countWord, extentWord};
+ghost use Rattle.packing.specs.Totals.{toldInto};
 
 // Number × 2^56 + value.
 pub fn packed(said: Said) -> u64
@@ -29,7 +29,7 @@ pub fn packed(said: Said) -> u64
 }
 
 // What a fresh, a check, a merge, a move or an occupancy page gives.
-pub(crate) fn done(given: Outcome) -> Said
+pub fn done(given: Outcome) -> Said
     ensures { λ s. ⌜ s ≡ saidOf nothing (outcomeOf given) ⌝ }
 {
     match given {
@@ -42,7 +42,7 @@ pub(crate) fn done(given: Outcome) -> Said
 }
 
 // What an ask gives.
-pub(crate) fn asked(given: AskResult) -> Said
+pub fn asked(given: AskResult) -> Said
     requires { ⌜ Within askWord (2 ^ 56) (askedOf given) ⌝ }
     ensures { λ s. ⌜ s ≡ saidOf askWord (askedOf given) ⌝ }
 {
@@ -74,7 +74,7 @@ fn place_word(place: Place) -> u64
 }
 
 // What a count gives.
-pub(crate) fn counted(given: CountResult) -> Said
+pub fn counted(given: CountResult) -> Said
     requires { ⌜ Within countWord (2 ^ 56) (countedOf given) ⌝ }
     ensures { λ s. ⌜ s ≡ saidOf countWord (countedOf given) ⌝ }
 {
@@ -88,7 +88,7 @@ pub(crate) fn counted(given: CountResult) -> Said
 }
 
 // What a page gives.
-pub(crate) fn paged(given: PageResult) -> Said
+pub fn paged(given: PageResult) -> Said
     requires { ⌜ Within extentWord (2 ^ 56) (pagedOf given) ⌝ }
     ensures { λ s. ⌜ s ≡ saidOf extentWord (pagedOf given) ⌝ }
 {
@@ -115,7 +115,7 @@ pub fn rowed(given: RowResult) -> Said
 }
 
 // What a tail gives; the total, then the change count, go into `out`.
-pub(crate) fn tailed(given: TailResult, out: &mut [u64]) -> Said
+pub fn tailed(given: TailResult, out: &mut [u64]) -> Said
     ensures { λ s. ⌜ s ≡ saidOf nothing (toldInto (tailedOf given) (length (now (out .entry)))) ⌝ }
     ensures { λ s. ⌜ now (out .exit) ≡ printed (toldInto (tailedOf given) (length (now (out .entry)))) (now (out .entry)) ⌝ }
 {

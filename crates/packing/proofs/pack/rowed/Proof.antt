@@ -1,8 +1,8 @@
 -- `rowed` gives the total, or the refusal.
 use mathlib.Core.Path.{_∙_}
 use borrow.Author.Needs.{needs}
-use Rattle.capi.proofs.pack.rowed.Statement.{statement}
-use Rattle.capi.proofs.pack.rowed.Tie as tie
+use Rattle.packing.proofs.pack.rowed.Statement.{statement}
+use Rattle.packing.proofs.pack.rowed.Tie as tie
 
 returns : tie.Need-returns
 returns c = rw (c .before .given .given .1)

@@ -4,10 +4,10 @@ use Prim.Native.Nat.{_^_, _<_}
 use native.Mathlib.Omega.{arith}
 use borrow.Author.Needs.{needs}
 use Rattle.answers.specs.Answers.{placeOf}
-use Rattle.capi.specs.Packing.{askWord}
-use Rattle.capi.proofs.ResultLaws.{within-accepted}
-use Rattle.capi.proofs.pack.asked.Statement.{statement}
-use Rattle.capi.proofs.pack.asked.Tie as tie
+use Rattle.packing.specs.Packing.{askWord}
+use Rattle.packing.proofs.ResultLaws.{within-accepted}
+use Rattle.packing.proofs.pack.asked.Statement.{statement}
+use Rattle.packing.proofs.pack.asked.Tie as tie
 
 -- the answer fits
 small : (c : tie.After-struct-known) → let a = c .before .before .given .given .0 .0 in

@@ -21,9 +21,9 @@ use Rattle.machine.proofs.RoomLaws.{frontAt-room, backAt-room, found-room}
 use Rattle.machine.proofs.RowLaws.{of-read, of-search, of-test}
 use Rattle.form.specs.Tails.{body, opened}
 use Rattle.form.specs.Calls.{askOf}
+use Rattle.form.proofs.TailLaws.{opened-known}
 use Rattle.answers.specs.Rows.{placeNumber, slotNumber}
-use Rattle.rows.proofs.FormRowLaws.{only-known}
-use Rattle.capi.specs.Packing.{placeWord, askWord, Unpacks}
+use Rattle.packing.specs.Packing.{placeWord, askWord, Unpacks}
 
 -- an accepted ask's reads and slot are small
 abbrev Small : Result Asked → Type 0
@@ -77,5 +77,5 @@ pub ask-unpacks : (img : List ℕ) (hash : ℕ) (a : Asked) → askOf known img 
 unfolding askOf
 ask-unpacks img hash a e =
     let p = andThen-accepted (opened known img) _ a e in
-    let q : M.askOf layout1 (body img) hash ≡ accepted a = rw (only-known img (p .0) (p .1)) at (p .2) in
+    let q : M.askOf layout1 (body img) hash ≡ accepted a = rw (opened-known img (p .0) (p .1)) at (p .2) in
     unpacked a (rw q at (ask-small (body img) hash))

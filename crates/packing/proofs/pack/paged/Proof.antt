@@ -1,10 +1,10 @@
 -- `paged` gives how many and the next bucket in one number, or the refusal.
 use native.Mathlib.Omega.{arith}
 use mathlib.Core.Path.{_∙_}
-use Rattle.capi.proofs.ResultLaws.{within-accepted}
+use Rattle.packing.proofs.ResultLaws.{within-accepted}
 use borrow.Author.Needs.{needs}
-use Rattle.capi.proofs.pack.paged.Statement.{statement}
-use Rattle.capi.proofs.pack.paged.Tie as tie
+use Rattle.packing.proofs.pack.paged.Statement.{statement}
+use Rattle.packing.proofs.pack.paged.Tie as tie
 
 mul-t8 : tie.Need-mul-t8
 mul-t8 c = omega (arith, within-accepted (rw (c .before .given .given .1) at (c .before .before .before .pre)))

@@ -1,8 +1,8 @@
 -- `place_word` gives place and slot in one number.
 use native.Mathlib.Omega.{arith}
 use borrow.Author.Needs.{needs}
-use Rattle.capi.proofs.pack.place_word.Statement.{statement}
-use Rattle.capi.proofs.pack.place_word.Tie as tie
+use Rattle.packing.proofs.pack.place_word.Statement.{statement}
+use Rattle.packing.proofs.pack.place_word.Tie as tie
 
 mul-result : tie.Need-mul-result
 mul-result c = omega (arith, rw (c .before .place .given .1) at (c .before .before .before .pre))

@@ -38,9 +38,9 @@ use Rattle.form.specs.Tails.{Tail, Header, body, rest, tailIn, markOf, slots, m
 use Rattle.form.specs.Calls.{changedBy, checkedBy, mergedBy, unchanged, freshOf, insertOf, deleteOf, askOf, countOf, rowOf, pageOf, occupancyOf, checkOf, tailOf, mergeSizedOf, mergeOf}
 use Rattle.form.specs.Moves.{attachOf, detachOf}
 use Rattle.answers.specs.Pairs.{answerValue}
-use Rattle.capi.specs.Packing.{Within, taken, barred, nothing, placeWord, askWord, countWord, runWord, rowWord}
-use Rattle.capi.specs.Totals.{tailInto}
-use Rattle.capi.proofs.ResultLaws.{within-accepted, within-then, within-cond, within-unless}
+use Rattle.packing.specs.Packing.{Within, taken, barred, nothing, placeWord, askWord, countWord, runWord, rowWord}
+use Rattle.packing.specs.Totals.{tailInto}
+use Rattle.packing.proofs.ResultLaws.{within-accepted, within-then, within-cond, within-unless}
 
 abbrev cap : ℕ
 cap = 2 ^ 56

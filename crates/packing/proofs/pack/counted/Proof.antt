@@ -1,10 +1,10 @@
 -- `counted` gives copies and reads in one number, or the refusal.
 use native.Mathlib.Omega.{arith}
 use mathlib.Core.Path.{_∙_}
-use Rattle.capi.proofs.ResultLaws.{within-accepted}
+use Rattle.packing.proofs.ResultLaws.{within-accepted}
 use borrow.Author.Needs.{needs}
-use Rattle.capi.proofs.pack.counted.Statement.{statement}
-use Rattle.capi.proofs.pack.counted.Tie as tie
+use Rattle.packing.proofs.pack.counted.Statement.{statement}
+use Rattle.packing.proofs.pack.counted.Tie as tie
 
 add-t8 : tie.Need-add-t8
 add-t8 c = omega (arith, within-accepted (rw (c .before .before .given .given .1) at (c .before .before .before .before .pre)))

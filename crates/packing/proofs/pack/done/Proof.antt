@@ -1,8 +1,8 @@
 -- `done` gives 0, or the refusal.
 use mathlib.Core.Path.{_∙_}
 use borrow.Author.Needs.{needs}
-use Rattle.capi.proofs.pack.done.Statement.{statement}
-use Rattle.capi.proofs.pack.done.Tie as tie
+use Rattle.packing.proofs.pack.done.Statement.{statement}
+use Rattle.packing.proofs.pack.done.Tie as tie
 
 returns : tie.Need-returns
 returns c = rw (c .enum-told .given .1)

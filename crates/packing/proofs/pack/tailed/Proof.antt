@@ -6,8 +6,8 @@ use native.Mathlib.Omega.{arith}
 use lib.ListN.{length, drop, set}
 use borrow.Author.Tests.{lt-ltb, le-ltb}
 use borrow.Author.Needs.{needs}
-use Rattle.capi.proofs.pack.tailed.Statement.{statement}
-use Rattle.capi.proofs.pack.tailed.Tie as tie
+use Rattle.packing.proofs.pack.tailed.Statement.{statement}
+use Rattle.packing.proofs.pack.tailed.Tie as tie
 
 -- two entries stored
 stored : (out : List ℕ) (n m : ℕ) → 2 ≤ length out → set (set out 0 n) 1 m ≡ (n ∷ m ∷ []) ++ drop 2 out
