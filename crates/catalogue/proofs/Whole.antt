@@ -1,5 +1,5 @@
 -- The contracts and the history theorem joined: demand 3 holds of the calls themselves, and what C-14 says of the total (`demand`); inserts and deletes
--- get 13 exactly at the top count (`calls-spend`), pages 14 exactly for another count than the image's (`calls-notice`). Each backyard member in the image that they left leads home (`calls-lead-home`), the copies of an ask
+-- get 13 exactly at the top count (`calls-spend`), pages 14 exactly for another count than the image's (`calls-notice`), with which a page into room enough is accepted (`calls-list`). Each backyard member in the image that they left leads home (`calls-lead-home`), the copies of an ask
 -- tell of the ledger (`calls-tell-copies`), and its occupancy pages tell the ledger (`calls-tell-occupancy`, `calls-show-occupancy`).
 use mathlib.Core.Path.{_≡_, refl, sym, _∙_, ap}
 use mathlib.Core.Logic.{_↔_, _⊎_, inl, inr, ⊎-elim}
@@ -9,7 +9,7 @@ use mathlib.Core.Option.{some}
 use lib.ListN.{length, take, drop, length-drop}
 use lib.Seq.{take-append-le, drop-append-le}
 use native.Mathlib.Omega.{arith}
-use Rattle.crumbmap.specs.Layouts.{Layout, known, layout1, fronts}
+use Rattle.crumbmap.specs.Layouts.{Layout, known, layout1, fronts, mostMembers}
 use Rattle.crumbmap.specs.Fingerprints.{frontOf, keyOf}
 use Rattle.machine.specs.Homes.{AllLeadHome}
 use Rattle.machine.specs.Results.{Result, accepted, refused, number}
@@ -40,7 +40,7 @@ use Rattle.history.specs.Demand.{Holds}
 use Rattle.history.specs.Copies.{CopiesTold}
 use Rattle.history.specs.Occupancies.{filedIn, pageSaid, Shows}
 use Rattle.history.proofs.Theorem.{known-fit, demand3-known, check-accepts, merge-refused-only-full, no-tail-number, spent-at-top, stale-refused}
-use Rattle.history.proofs.Theorem.{members-lead-home, copies-told, occupancy-said, page-long, line-shows}
+use Rattle.history.proofs.Theorem.{members-lead-home, copies-told, occupancy-said, page-long, page-accepted, line-shows}
 use Rattle.catalogue.specs.Runs.{Performed, Happened}
 use Rattle.catalogue.specs.Delivery.{Demand, timesFiled}
 use Rattle.machine.proofs.AcceptedLaws.{same-answer, never-refused}
@@ -163,6 +163,12 @@ pub calls-notice : {h : History} {img : List ℕ} → Happened h img → (s chan
     → Performed img (H.page s changes room) n new → (n ≡ 14) ↔ (filed known h .changes ≡ changes → ⊥)
 calls-notice {h} happened s changes room n new d =
     rw (performed d .0, left happened) (stale-refused known known-fit h (started happened) s changes room)
+
+-- with the image's count, from F or before it and into 72 entries or more, it is accepted: a walk comes to its end, unless the image changes
+pub calls-list : {h : History} {img : List ℕ} → Happened h img → (s room n : ℕ) (new : List ℕ) → s ≤ fronts (blocks h) → mostMembers layout1 ≤ room
+    → Performed img (H.page s (filed known h .changes) room) n new → n ≡ 0
+calls-list {h} happened s room n new l r d =
+    rw (performed d .0, left happened) (page-accepted known known-fit h (started happened) layout1 (named happened) s room l r)
 
 -- and in the image that the calls left, each backyard member leads by its crumb back to a front bucket that is full, none larger than it
 pub calls-lead-home : {h : History} {img : List ℕ} → Happened h img → AllLeadHome layout1 (blocks h) (body img)

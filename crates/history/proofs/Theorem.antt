@@ -2,19 +2,21 @@
 -- history each call was refused exactly where it is due, counts and asks tell the ledger, a full walk lists it, and the tail tells its sum.
 -- Beside it: check accepts every history's image (`check-accepts`), so each backyard member in it leads home (`members-lead-home`), and a
 -- merge of two is refused only when full (`merge-refused-only-full`); no call gets 11 or 12 (`no-tail-number`), 13 comes exactly at the top count
--- (`spent-at-top`), and 14 exactly for another count than the image's (`stale-refused`); new, old, new gives the image with change count 0 (`image-said`, `new-old-new`); what the copies of an ask tell of the ledger
+-- (`spent-at-top`), and 14 exactly for another count than the image's (`stale-refused`), with which a page into room enough is accepted (`page-accepted`); new, old, new gives the image with change count 0 (`image-said`, `new-old-new`); what the copies of an ask tell of the ledger
 -- (`copies-told`); an occupancy page tells the ledger (`occupancy-said`, `page-long`, `line-said`, `line-shows`).
 use mathlib.Core.Path.{_≡_, refl, sym, _∙_}
 use mathlib.Core.Logic.{_⊎_, inl, inr, _↔_}
 use Prim.Native.Nat.{ℕ, _+_, _*_, _^_, _≤_, _<_}
-use mathlib.Core.Bool.{Bool, true, false, cond}
+use mathlib.Core.Bool.{Bool, true, false, cond, _&&_}
 use mathlib.Core.List.{List, _++_}
 use mathlib.Core.Option.{none, some}
 use native.Mathlib.Omega.{arith}
 use lib.ListN.{length, take, drop}
 use lib.Dec.{leb, ltb, eqb}
-use borrow.Author.Tests.{eq-eqb, lt-ltb}
-use Rattle.crumbmap.specs.Layouts.{Layout, Numbering, known, layout1, fronts, mostBehind, mostMembers}
+use borrow.Author.Tests.{eq-eqb, lt-ltb, le-ltb, ltb-true}
+use Rattle.multiset.specs.Multisets.{sum}
+use Rattle.crumbmap.specs.Layouts.{Layout, Numbering, known, layout1, keys, fronts, mostBehind, mostMembers}
+use Rattle.crumbmap.specs.Fingerprints.{fingerprint}
 use Rattle.buckets.specs.Buckets.{Fits64}
 use Rattle.buckets.proofs.BucketLaws.{fits1}
 use Rattle.machine.specs.Results.{accepted, number}
@@ -38,12 +40,13 @@ use Rattle.form.proofs.TailLaws.{length-body, headed-parts}
 use Rattle.form.proofs.MoveLaws as F
 use Rattle.history.specs.Histories.{Call, insert, delete, page, Fits, History, Started, blocks, layoutNumber, numberOf, bytesAfter}
 use Rattle.history.specs.Ledgers.{ledger, filed}
+use Rattle.history.specs.Refusals.{due}
 use Rattle.history.specs.Demand.{Demand3, AllFit}
 use Rattle.history.specs.Copies.{CopiesTold}
 use Rattle.history.specs.Occupancies.{filedIn, pageSaid, Shows}
 use Rattle.history.proofs.LedgerLaws.{count-ledger, ask-ledger}
 use Rattle.history.proofs.StepLaws.{Stands, headerOf, total-members, opens-at, opens, askOf-body, countOf-body, occupancyOf-body}
-use Rattle.history.proofs.HistoryLaws.{StandsAfter, check-stands, mergeSizedOf-body, stands, stands-at, all-due}
+use Rattle.history.proofs.HistoryLaws.{StandsAfter, check-stands, mergeSizedOf-body, stands, stands-at, call-due, all-due}
 use Rattle.history.proofs.DueLaws.{tail-numbers, spent-insert, spent-delete, stale-page}
 use Rattle.history.proofs.WalkSegments.{full-walk}
 use Rattle.history.proofs.ShownLaws.{line-shown}
@@ -201,6 +204,21 @@ module _ (layouts : Numbering) (fit : AllFit layouts) (h : History) (s : Started
       let m = members-good L (blocks h) (body (bytesAfter layouts h)) (st .keep .good) f k in
       rw (← bucket-length L (blocks h) (body (bytesAfter layouts h)) (st .keep .good) (ledger layouts L h) (st .keep .says) f (m .0) k (m .2))
       (members-room L (blocks h) f (body (bytesAfter layouts h)) (m .0) (m .1))
+
+  -- a page up to F with the image's count and room for any front bucket is accepted: a walk with such outputs comes to its end, unless the image changes
+  pub page-accepted : (from room : ℕ) → from ≤ fronts (blocks h) → mostMembers L ≤ room
+      → numberOf layouts (bytesAfter layouts h) (page from (filed layouts h .changes) room) ≡ 0
+  unfolding due filedIn
+  page-accepted from room l r =
+      call-due layouts h L st (page from (filed layouts h .changes) room) tt
+      ∙ rw (eq-eqb (filed layouts h .changes) (filed layouts h .changes) refl, le-ltb (fronts (blocks h)) from l) (fits (ltb from (fronts (blocks h))) refl)
+    where
+      held : ℕ
+      held = sum (ledger layouts L h) (fingerprint L from 0) (keys L)
+
+      fits : (b : Bool) → ltb from (fronts (blocks h)) ≡ b → _≡_ {A = ℕ} (cond (b && ltb room held) 7 0) 0
+      fits true e = rw (le-ltb room held (omega (arith, filed-room from (ltb-true _ _ e)))) refl
+      fits false e = refl
 
   -- and whoever reads its numbers reads these
   pub line-shows : L .frontSlots < 10 ^ 2 → mostBehind L < 10 ^ 2 → (p room i : ℕ) (text : List ℕ)
