@@ -1,3 +1,5 @@
+//! Each call through the wrapper: its answers, its refusals and their order, and what it leaves.
+
 use breadcrumb::{packed, OCCUPANCY_BYTES};
 use breadcrumb::{Asked, Changed, Counted, Entry, Image, OldImage, Paged, Place, Refusal, Tail};
 

@@ -1,3 +1,5 @@
+//! Walks over the members: undisturbed, disturbed, refused, and over images that they were not begun on.
+
 use breadcrumb::{Entry, Image, Refusal, Walk};
 
 /// A hash of the first front bucket, and one of the last.

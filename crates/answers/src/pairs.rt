@@ -3,6 +3,7 @@
 use crate::ChangeResult;
 use crate::Refusal;
 ghost use mathlib.Core.Path.{_≡_};
+ghost use Rattle.machine.specs.Results.{refused as barred};
 ghost use Rattle.answers.specs.Answers.{changeOf};
 ghost use Rattle.answers.specs.Pairs.{saidOf, refusalOf, itself};
 
@@ -12,63 +13,34 @@ pub struct Said {
     pub value: u64,
 }
 
-// A refusal.
+// A refusal: its number, and its table number or 0.
 pub fn refused(why: Refusal) -> Said
     ensures { λ s. ⌜ s ≡ refusalOf why ⌝ }
 {
     match why {
-        Refusal::WrongLength => Said {
-            number: 1,
-            value: 0,
-        },
-        Refusal::LengthsDiffer => Said {
-            number: 2,
-            value: 0,
-        },
-        Refusal::Unsound(table) => Said {
-            number: 3,
-            value: table as u64,
-        },
-        Refusal::Full => Said {
-            number: 4,
-            value: 0,
-        },
-        Refusal::Absent => Said {
-            number: 5,
-            value: 0,
-        },
-        Refusal::PastEnd => Said {
-            number: 6,
-            value: 0,
-        },
-        Refusal::NoRoom => Said {
-            number: 7,
-            value: 0,
-        },
-        Refusal::Early(table) => Said {
-            number: 8,
-            value: table as u64,
-        },
-        Refusal::Descending => Said {
-            number: 10,
-            value: 0,
-        },
-        Refusal::BadTail => Said {
-            number: 11,
-            value: 0,
-        },
-        Refusal::Miscounted => Said {
-            number: 12,
-            value: 0,
-        },
-        Refusal::Spent => Said {
-            number: 13,
-            value: 0,
-        },
-        Refusal::Changed => Said {
-            number: 14,
-            value: 0,
-        },
+        Refusal::WrongLength => pair(1, 0),
+        Refusal::LengthsDiffer => pair(2, 0),
+        Refusal::Unsound(table) => pair(3, table),
+        Refusal::Full => pair(4, 0),
+        Refusal::Absent => pair(5, 0),
+        Refusal::PastEnd => pair(6, 0),
+        Refusal::NoRoom => pair(7, 0),
+        Refusal::Early(table) => pair(8, table),
+        Refusal::Descending => pair(10, 0),
+        Refusal::BadTail => pair(11, 0),
+        Refusal::Miscounted => pair(12, 0),
+        Refusal::Spent => pair(13, 0),
+        Refusal::Changed => pair(14, 0),
+    }
+}
+
+// A number with a value.
+fn pair(number: u64, value: usize) -> Said
+    ensures { λ s. ⌜ s ≡ saidOf itself (barred number value) ⌝ }
+{
+    Said {
+        number,
+        value: value as u64,
     }
 }
 

@@ -1,4 +1,5 @@
--- Laws of fingerprints, of the map and of the valid crumbs' bits.
+-- Laws of layouts, of fingerprints, of the map and of the valid crumbs' bits.
+pub mod LayoutLaws
 pub mod FingerprintLaws
 pub mod TestLaws
 pub mod CrumbMapLaws

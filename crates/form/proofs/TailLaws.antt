@@ -10,13 +10,14 @@ use native.Mathlib.Omega.{arith}
 use native.Mathlib.Nat.{add-sub-cancel}
 use lib.ListN.{length, take, drop, getD, length-append, length-drop, take-append-drop}
 use lib.Seq.{take-append-seam, drop-append-seam, length-take-le, take-add, take-suc, getD-drop}
-use lib.Dec.{T, lit<, leb, eqb}
+use lib.Dec.{T, lit<, leb}
 use borrow.Author.Tests.{le-leb, leb-true}
 use Rattle.multiset.specs.Multisets.{Below, allZero}
 use Rattle.multiset.specs.Digits.{digits, value, padded}
 use Rattle.multiset.proofs.MultisetLaws.{below-take, below-drop, below-of-at}
 use Rattle.multiset.proofs.DigitLaws.{value-digits, digits-value, padded-take}
 use Rattle.crumbmap.specs.Layouts.{Layout, Numbering, layout1, known}
+use Rattle.crumbmap.proofs.LayoutLaws.{known-one}
 use Rattle.machine.specs.Results.{accepted, refused}
 use Rattle.machine.specs.Images.{sizeOf, sized}
 use Rattle.machine.proofs.AcceptedLaws.{same-answer, never-refused, andThen-accepted}
@@ -162,8 +163,4 @@ opened-layout layouts img h e = let s = andThen-accepted (sized (body img)) _ h 
 
 -- of the layouts that there are, layout 1
 pub opened-known : (img : List ℕ) (h : Header) → opened known img ≡ accepted h → h .layout ≡ layout1
-opened-known img h e = one (eqb (h .number) 1) (opened-layout known img h e)
-  where
-    one : (b : Bool) → cond b (some layout1) none ≡ some (h .layout) → h .layout ≡ layout1
-    one true k = cc
-    one false k = let z : _≡_ {A = ℕ} 0 1 = cc in absurd (omega arith)
+opened-known img h e = sym (known-one (h .number) (h .layout) (opened-layout known img h e))

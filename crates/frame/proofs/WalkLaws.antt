@@ -3,11 +3,12 @@ use mathlib.Core.Path.{_≡_, sym, _∙_, ap}
 use Prim.Native.Nat.{ℕ, _*_, _≤_}
 use mathlib.Core.Bool.{Bool, true, false, cond, _&&_}
 use mathlib.Core.List.{List}
-use mathlib.Core.Option.{none, some}
+use mathlib.Core.Option.{some}
 use native.Mathlib.Omega.{arith}
 use lib.ListN.{length}
 use lib.Dec.{eqb, ltb}
-use Rattle.crumbmap.specs.Layouts.{Layout, layout1, known, mostMembers, fronts}
+use Rattle.crumbmap.specs.Layouts.{Layout, known, mostMembers, fronts}
+use Rattle.crumbmap.proofs.LayoutLaws.{known-one}
 use Rattle.machine.specs.Results.{accepted, refused}
 use Rattle.machine.specs.Images.{sizeOf, lengthOf}
 use Rattle.machine.specs.Pages.{Run, pageFrom}
@@ -31,11 +32,7 @@ page-end q r n e =
 
 -- the room of a list is enough for 24 buckets of every layout that there is
 known-room : (n : ℕ) (L : Layout) → known n ≡ some L → 24 * mostMembers L ≤ room
-known-room n L e = go (eqb n 1) e
-  where
-    go : (b : Bool) → cond b (some layout1) none ≡ some L → 24 * mostMembers L ≤ room
-    go true q = let same : layout1 ≡ L = cc in rw (← same) (omega arith)
-    go false q = let z : _≡_ {A = ℕ} 0 1 = cc in absurd (omega arith)
+known-room n L e = rw (← known-one n L e) (omega arith)
 
 -- the page of a body with B = 3 ends at the last bucket
 body-whole : (L : Layout) (b : List ℕ) (r : Run) → 24 * mostMembers L ≤ room → length b ≡ 2176 → M.pageOf L b 0 room ≡ accepted r → r .next ≡ 24

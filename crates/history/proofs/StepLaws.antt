@@ -13,13 +13,14 @@ use Rattle.multiset.specs.Multisets.{sum}
 use Rattle.crumbmap.specs.Layouts.{Layout, Numbering, keys, fronts}
 use Rattle.crumbmap.specs.Fingerprints.{frontOf}
 use Rattle.buckets.specs.Buckets.{Fits64}
-use Rattle.machine.specs.Results.{accepted, refused, number}
+use Rattle.machine.specs.Results.{accepted, number}
 use Rattle.machine.specs.Machine.{full}
 use Rattle.machine.specs.Calls as M
 use Rattle.machine.specs.OccupancyPages as O
 use Rattle.form.specs.Tails.{Tail, Header, body, tailBytes, top, slots, members, raised, lowered, headed, opened}
 use Rattle.form.specs.Calls.{changedBy, unchanged, insertOf, deleteOf, askOf, countOf, pageOf, occupancyOf}
 use Rattle.form.proofs.TailLaws.{body-form, headed-form}
+use Rattle.form.proofs.WalkLaws.{unchanged-number}
 use Rattle.form.proofs.CountLaws.{members-most, slots-small}
 use Rattle.history.specs.Histories.{Call, insert, delete, ask, count, page, Fits, numberOf, imageAfter}
 use Rattle.history.specs.Ledgers.{fingerprintOf, adjusted, entered}
@@ -151,12 +152,7 @@ module _ {layouts : Numbering} {n : ℕ} {L : Layout} {B : ℕ} {img : List ℕ}
       go false e = body-step e (delete-ledger (st .fits) keep k h)
 
   pub page-step : (s m room : ℕ) → numberOf layouts img (page s m room) ≡ cond (eqb (t .changes) m) (pageNumber L B N s room) 14
-  unfolding unchanged
-  page-step s m room = rw (pageOf-body s m room) (go (eqb (t .changes) m))
-    where
-      go : (b : Bool) → number (cond b (M.pageOf L (body img) s room) (refused 14 0)) ≡ cond b (pageNumber L B N s room) 14
-      go true = page-due keep s room
-      go false = refl
+  page-step s m room = rw (pageOf-body s m room, unchanged-number (t .changes) m (M.pageOf L (body img) s room), page-due keep s room)
 
   pub call-stands : (c : Call) → Fits c
       → Stands layouts n L B (imageAfter layouts img c) (entered L B (numberOf layouts img c) c N) (adjusted (numberOf layouts img c) c t)

@@ -2,7 +2,8 @@
 -- history each call was refused exactly where it is due, counts and asks tell the ledger, a full walk lists it, and the tail tells its sum.
 -- Beside it: check accepts every history's image (`check-accepts`), so each backyard member in it leads home (`members-lead-home`), and a
 -- merge of two is refused only when full (`merge-refused-only-full`); no call gets 11 or 12 (`no-tail-number`), 13 comes exactly at the top count
--- (`spent-at-top`), and 14 exactly for another count than the image's (`stale-refused`), with which a page into room enough is accepted (`page-accepted`); new, old, new gives the image with change count 0 (`image-said`, `new-old-new`); what the copies of an ask tell of the ledger
+-- (`spent-at-top`), and 14 exactly where a page's count is not the image's (`stale-refused`); one with that count and room enough is accepted
+-- (`page-accepted`); new, old, new gives the image with change count 0 (`image-said`, `new-old-new`); what the copies of an ask tell of the ledger
 -- (`copies-told`); an occupancy page tells the ledger (`occupancy-said`, `page-long`, `line-said`, `line-shows`).
 use mathlib.Core.Path.{_≡_, refl, sym, _∙_}
 use mathlib.Core.Logic.{_⊎_, inl, inr, _↔_}
@@ -12,12 +13,12 @@ use mathlib.Core.List.{List, _++_}
 use mathlib.Core.Option.{none, some}
 use native.Mathlib.Omega.{arith}
 use lib.ListN.{length, take, drop}
-use lib.Dec.{leb, ltb, eqb}
+use lib.Dec.{leb, ltb}
 use borrow.Author.Tests.{eq-eqb, lt-ltb, le-ltb, ltb-true}
 use Rattle.multiset.specs.Multisets.{sum}
-use Rattle.crumbmap.specs.Layouts.{Layout, Numbering, known, layout1, keys, fronts, mostBehind, mostMembers}
+use Rattle.crumbmap.specs.Layouts.{Layout, Numbering, known, keys, fronts, mostBehind, mostMembers}
 use Rattle.crumbmap.specs.Fingerprints.{fingerprint}
-use Rattle.buckets.specs.Buckets.{Fits64}
+use Rattle.crumbmap.proofs.LayoutLaws.{known-one}
 use Rattle.buckets.proofs.BucketLaws.{fits1}
 use Rattle.machine.specs.Results.{accepted, number}
 use Rattle.machine.specs.Images.{sizeOf}
@@ -76,11 +77,7 @@ demand3 layouts fit h s =
 
 -- the layouts that there are
 pub known-fit : AllFit known
-known-fit n L e = go (eqb n 1) e
-  where
-    go : (b : Bool) → cond b (some layout1) none ≡ some L → Fits64 L
-    go true q = let same : layout1 ≡ L = cc in rw (← same) fits1
-    go false q = let z : _≡_ {A = ℕ} 0 1 = cc in absurd (omega arith)
+known-fit n L e = rw (← known-one n L e) fits1
 
 pub demand3-known : Demand3 known
 demand3-known = demand3 known known-fit
