@@ -1,18 +1,19 @@
 -- The map and its way back undo each other, for either choice; numbers are in range; no two front buckets share a (bucket, crumb).
 -- Main results: `home-bucketOf`, `bucketOf-home`, `bucketOf-lt`, `crumbOf-lt`, `home-lt`, `front-unique`, `choice-unique`.
-use mathlib.Core.Path.{_≡_, refl, _∙_, ap}
+use mathlib.Core.Path.{_≡_, refl, sym, _∙_, ap}
 use Prim.Native.Nat.{ℕ, _+_, _*_, _/_, _%_, _-_, _≤_, _<_}
 use mathlib.Core.Bool.{Bool, true, false, cond, _&&_}
 use mathlib.Core.Option.{none, some}
 use native.Mathlib.Nat.{mul-le-mul-right, add-mul-div-right, add-mul-mod-self-right, div-eq-of-lt, mod-eq-of-lt, mod-add-div'}
 use native.Mathlib.Omega.{arith}
 use lib.Dec.{ltb}
-use borrow.Author.Tests.{lt-ltb, le-ltb, ltb-true, ltb-false}
+use borrow.Author.Tests.{lt-ltb, ltb-true}
 use Rattle.crumbmap.specs.Layouts.{fronts, backyards}
 use Rattle.crumbmap.specs.CrumbMap.{stride, firstBucket, firstCrumb, secondBucket, secondCrumb, bucketOf, crumbOf, firstHome, secondHome, home}
 use Rattle.crumbmap.specs.Steps.Places.{homeIn}
 use Rattle.crumbmap.specs.declared.Homes.{Homes}
 use Rattle.crumbmap.proofs.TestLaws.{both-true}
+use Rattle.crumbmap.proofs.SplitLaws.{crumbAt, split, home-split}
 
 pub bucketOf-lt : (t : Bool) (B f : ℕ) → f < fronts B → bucketOf t B f < backyards B
 unfolding firstBucket firstCrumb secondBucket stride fronts backyards
@@ -35,22 +36,22 @@ second-remainder K t e h = add-mul-mod-self-right t e K ∙ mod-eq-of-lt h
 
 -- back of map is the front bucket
 pub home-bucketOf : (t : Bool) (B f : ℕ) → f < fronts B → home B (bucketOf t B f) (crumbOf t f) ≡ some f
-unfolding firstBucket firstCrumb secondBucket secondCrumb stride fronts home firstHome secondHome
+unfolding firstBucket firstCrumb secondBucket secondCrumb stride fronts firstHome secondHome
 home-bucketOf true B f h =
     let d : f % 8 < 8 = omega arith in
     let b : f / 8 < B = omega arith in
     let e : 8 * (f / 8) + f % 8 ≡ f = omega arith in
-    rw (lt-ltb _ _ d, lt-ltb _ _ b, e)
+    home-split true B (f / 8) (f % 8) d ∙ rw (lt-ltb _ _ b, e)
 home-bucketOf false B f h =
     let K : ℕ = stride B in
     let t : ℕ = f / 8 / 8 in
     let small : t < K = omega arith in
-    let c : 8 ≤ 8 + f / 8 % 8 = omega arith in
-    let d : 8 + f / 8 % 8 - 8 ≡ f / 8 % 8 = omega arith in
+    let d : f / 8 % 8 < 8 = omega arith in
     let e : f % 8 < 8 = omega arith in
     let b : 8 * t + f / 8 % 8 < B = omega arith in
     let s : 64 * t + 8 * (f / 8 % 8) + f % 8 ≡ f = omega arith in
-    rw (le-ltb _ _ c, d, second-quotient K t (f % 8) small, second-remainder K t (f % 8) small, lt-ltb _ _ e, lt-ltb _ _ b, s)
+    home-split false B (t + f % 8 * K) (f / 8 % 8) d
+    ∙ rw (second-quotient K t (f % 8) small, second-remainder K t (f % 8) small, lt-ltb _ _ e, lt-ltb _ _ b, s)
 
 -- ---- map of back
 
@@ -58,47 +59,47 @@ cond-some : (b : Bool) (x f : ℕ) → cond b (some x) none ≡ some f → (b �
 cond-some true x f e = (refl, cc)
 cond-some false x f e = let z : _≡_ {A = ℕ} 0 1 = cc in absurd (omega arith)
 
--- a crumb that is valid leads home by one of the two choices
+-- a crumb that is valid leads home by its choice, with its digit d
 data Valid (B j c f : ℕ) : Type 0 where
-  by-first : c < 8 → j < B → 8 * j + c ≡ f → Valid B j c f
-  by-second : 8 ≤ c → j / stride B < 8 → 8 * (j % stride B) + (c - 8) < B → 64 * (j % stride B) + 8 * (c - 8) + j / stride B ≡ f → Valid B j c f
+  by-first : (d : ℕ) → crumbAt true d ≡ c → d < 8 → j < B → 8 * j + d ≡ f → Valid B j c f
+  by-second : (d : ℕ) → crumbAt false d ≡ c → d < 8 → j / stride B < 8 → 8 * (j % stride B) + d < B → 64 * (j % stride B) + 8 * d + j / stride B ≡ f → Valid B j c f
 
-home-valid : (B j c f : ℕ) → home B j c ≡ some f → Valid B j c f
-unfolding home firstHome secondHome
-home-valid B j c f e = go (ltb c 8) refl e
+home-valid : (B j c f : ℕ) → c < 16 → home B j c ≡ some f → Valid B j c f
+unfolding firstHome secondHome
+home-valid B j c f l e = let s = split c l in go (s .choice) (s .digit) (s .small) (s .value)
   where
-    go : (b : Bool) → ltb c 8 ≡ b → cond b (firstHome B j c) (secondHome B j (c - 8)) ≡ some f → Valid B j c f
-    go true l g =
-        let h = cond-some (ltb j B) (8 * j + c) f g in
-        by-first (ltb-true c 8 l) (ltb-true j B (h .0)) (h .1)
-    go false l g =
-        let h = cond-some (ltb (j / stride B) 8 && ltb (8 * (j % stride B) + (c - 8)) B) (64 * (j % stride B) + 8 * (c - 8) + j / stride B) f g in
-        let k = both-true _ _ (h .0) in
-        by-second (ltb-false c 8 l) (ltb-true _ _ (k .0)) (ltb-true _ _ (k .1)) (h .1)
+    go : (t : Bool) (d : ℕ) → d < 8 → crumbAt t d ≡ c → Valid B j c f
+    go true d k p =
+        let h = cond-some (ltb j B) (8 * j + d) f (sym (home-split true B j d k) ∙ ap (home B j) p ∙ e) in
+        by-first d p k (ltb-true j B (h .0)) (h .1)
+    go false d k p =
+        let h = cond-some _ (64 * (j % stride B) + 8 * d + j / stride B) f (sym (home-split false B j d k) ∙ ap (home B j) p ∙ e) in
+        let b = both-true _ _ (h .0) in
+        by-second d p k (ltb-true _ _ (b .0)) (ltb-true _ _ (b .1)) (h .1)
 
 pub home-lt : (B j c f : ℕ) → c < 16 → home B j c ≡ some f → f < fronts B
 unfolding fronts
-home-lt B j c f l e = go (home-valid B j c f e)
+home-lt B j c f l e = go (home-valid B j c f l e)
   where
     go : Valid B j c f → f < 8 * B
-    go (by-first h b s) = omega arith
-    go (by-second h b d s) = omega arith
+    go (by-first d p h b s) = omega arith
+    go (by-second d p h b i s) = omega arith
 
 -- a valid digit's front bucket is in range
 pub homeIn-lt : (B j c : ℕ) (r : Homes) (d : ℕ) → c < 16 → home B j c ≡ homeIn r d → d < r .digits → r .start + r .step * d < fronts B
 homeIn-lt B j c r d l e h = home-lt B j c (r .start + r .step * d) l (e ∙ rw (lt-ltb _ _ h))
 
--- map of back, where valid, is the bucket and the crumb
-pub bucketOf-home : (B j c f : ℕ) → c < 16 → home B j c ≡ some f → (bucketOf (ltb c 8) B f ≡ j) × (crumbOf (ltb c 8) f ≡ c)
+-- map of back, where valid, is the bucket and the crumb, by one of the choices
+pub bucketOf-home : (B j c f : ℕ) → c < 16 → home B j c ≡ some f → (t : Bool) × (bucketOf t B f ≡ j) × (crumbOf t f ≡ c)
 unfolding firstBucket firstCrumb secondBucket secondCrumb
-bucketOf-home B j c f l e = go (home-valid B j c f e)
+bucketOf-home B j c f l e = go (home-valid B j c f l e)
   where
-    go : Valid B j c f → (bucketOf (ltb c 8) B f ≡ j) × (crumbOf (ltb c 8) f ≡ c)
-    go (by-first h b s) = rw (lt-ltb _ _ h) (omega arith)
-    go (by-second h b d s) =
+    go : Valid B j c f → (t : Bool) × (bucketOf t B f ≡ j) × (crumbOf t f ≡ c)
+    go (by-first d p h b s) = (true, omega arith, omega arith)
+    go (by-second d p h b i s) =
         let q : f / 8 / 8 ≡ j % stride B = omega arith in
         let r : f % 8 ≡ j / stride B = omega arith in
-        rw (le-ltb _ _ h) (rw (q, r) (mod-add-div' j (stride B)), omega arith)
+        (false, rw (q, r) (mod-add-div' j (stride B)), omega arith)
 
 -- two different front buckets never share a (bucket, crumb)
 pub front-unique : (t u : Bool) (B e f : ℕ) → e < fronts B → f < fronts B → bucketOf t B e ≡ bucketOf u B f → crumbOf t e ≡ crumbOf u f → e ≡ f

@@ -2,5 +2,6 @@
 pub mod LayoutLaws
 pub mod FingerprintLaws
 pub mod TestLaws
+pub mod SplitLaws
 pub mod CrumbMapLaws
 pub mod MarkLaws

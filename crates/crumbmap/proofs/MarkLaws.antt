@@ -13,6 +13,7 @@ use Rattle.crumbmap.specs.CrumbMap.{home, firstHome, secondHome}
 use Rattle.crumbmap.specs.Steps.Places.{LeadsBack}
 use Rattle.crumbmap.specs.Steps.Marks.{Marks, bitOf}
 use Rattle.crumbmap.specs.declared.Homes.{Homes}
+use Rattle.crumbmap.proofs.SplitLaws.{crumbAt, split, home-split}
 
 odd-ones : (j : ℕ) → (2 ^ suc j - 1) % 2 ≡ 1
 odd-ones j = rw (pow-suc 2 j) (omega (arith, pow-pos j))
@@ -41,27 +42,27 @@ marks-back {homes = homes} {r = r} b =
     go d false t = ones-out (r .digits) d (ltb-false d (r .digits) t)
 
 -- a bit of two bytes is a bit of the one or the other
-module _ (hi lo c : ℕ) (small : lo < 2 ^ 8) where
-  bit-low : c < 8 → (hi * 2 ^ 8 + lo) / 2 ^ c % 2 ≡ lo / 2 ^ c % 2
+module _ (hi lo d : ℕ) (small : lo < 2 ^ 8) where
+  bit-low : d < 8 → (hi * 2 ^ 8 + lo) / 2 ^ d % 2 ≡ lo / 2 ^ d % 2
   bit-low h =
       let n = hi * 2 ^ 8 + lo in
-      let e : 8 - (1 + c) + (1 + c) ≡ 8 = omega arith in
-      let s = rw (e, low hi 8 small) at (mod-mod-pow n (8 - (1 + c)) (1 + c)) in
-      sym (field n 1 c) ∙ ap (λ (x : ℕ). x / 2 ^ c) (sym s) ∙ field lo 1 c
+      let e : 8 - (1 + d) + (1 + d) ≡ 8 = omega arith in
+      let s = rw (e, low hi 8 small) at (mod-mod-pow n (8 - (1 + d)) (1 + d)) in
+      sym (field n 1 d) ∙ ap (λ (x : ℕ). x / 2 ^ d) (sym s) ∙ field lo 1 d
 
-  bit-high : 8 ≤ c → (hi * 2 ^ 8 + lo) / 2 ^ c % 2 ≡ hi / 2 ^ (c - 8) % 2
-  bit-high h =
-      let e : 8 + (c - 8) ≡ c = omega arith in
-      ap (λ (x : ℕ). x % 2) (sym (rw (e, high hi 8 small) at (shr-shr (hi * 2 ^ 8 + lo) 8 (c - 8))))
+  bit-high : (hi * 2 ^ 8 + lo) / 2 ^ (8 + d) % 2 ≡ hi / 2 ^ d % 2
+  bit-high = ap (λ (x : ℕ). x % 2) (sym (rw (high hi 8 small) at (shr-shr (hi * 2 ^ 8 + lo) 8 d)))
 
--- a crumb is 8 × choice + digit
+-- the marks of choice 0 below those of choice 1: each crumb's bit is that of its digit
 pub marks-home : (B j lo hi : ℕ) → Marks 8 (firstHome B j) lo → Marks 8 (secondHome B j) hi → Marks 16 (home B j) (lo + 256 * hi)
-unfolding home
-marks-home B j lo hi m n = record { small = omega (arith, m .small, n .small); bits = λ c l. rw e (go c l (ltb c 8) refl) }
+marks-home B j lo hi m n = record {
+  small = omega (arith, m .small, n .small);
+  bits = λ c l. let s = split c l in rw (e, ← s .value) (go (s .choice) (s .digit) (s .small));
+}
   where
     e : lo + 256 * hi ≡ hi * 2 ^ 8 + lo
     e = omega arith
 
-    go : (c : ℕ) → c < 16 → (p : Bool) → ltb c 8 ≡ p → (hi * 2 ^ 8 + lo) / 2 ^ c % 2 ≡ bitOf (cond p (firstHome B j c) (secondHome B j (c - 8)))
-    go c l true t = bit-low hi lo c (m .small) (ltb-true c 8 t) ∙ m .bits c (ltb-true c 8 t)
-    go c l false t = bit-high hi lo c (m .small) (ltb-false c 8 t) ∙ n .bits (c - 8) (omega (arith, ltb-false c 8 t))
+    go : (t : Bool) (d : ℕ) → d < 8 → (hi * 2 ^ 8 + lo) / 2 ^ crumbAt t d % 2 ≡ bitOf (home B j (crumbAt t d))
+    go true d l = bit-low hi lo d (m .small) l ∙ m .bits d l ∙ ap bitOf (sym (home-split true B j d l))
+    go false d l = bit-high hi lo d (m .small) ∙ n .bits d l ∙ ap bitOf (sym (home-split false B j d l))

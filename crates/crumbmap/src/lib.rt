@@ -1,6 +1,7 @@
 // Fingerprints of hashes, and the map between front and backyard buckets (algorithm 1).
 // Sizes are document 01's B. Bucket numbers are types of their own: only the map and its way back turn one into the other.
 
+pub mod crumb;
 pub mod fingerprint;
 pub mod layout;
 pub mod map;
@@ -23,6 +24,9 @@ pub struct Ways {
     pub first: Overflow,
     pub second: Overflow,
 }
+
+// A crumb taken apart: its choice and its digit.
+pub struct Split(pub usize, pub usize);
 
 // The front bucket that a crumb leads back to.
 pub enum Home {

@@ -6,6 +6,8 @@ use crate::Home;
 use crate::Homes;
 use crate::Overflow;
 use crate::Ways;
+use crate::crumb::choice_of;
+use crate::crumb::digit_of;
 ghost use mathlib.Core.Path.{_≡_};
 ghost use mathlib.Core.Bool.{true, false, _&&_};
 ghost use Prim.Native.Nat.{ℕ, _+_, _*_, _<_, _≤_};
@@ -64,12 +66,10 @@ pub fn home_of(size: usize, from: Backyard, crumb: u32) -> Home
     requires { ⌜ (size ≤ 65536) × (from .0 < backyards size) × (crumb < 16) ⌝ }
     ensures { λ r. ⌜ r ≡ homeOf (home size (from .0) crumb) ⌝ }
 {
-    let choice = crumb / 8;
-    let digit = crumb % 8;
-    if choice == 0 {
-        return home_at(first_homes(size, from), digit as usize);
+    if choice_of(crumb) == 0 {
+        return home_at(first_homes(size, from), digit_of(crumb));
     }
-    home_at(second_homes(size, from), digit as usize)
+    home_at(second_homes(size, from), digit_of(crumb))
 }
 
 // The front bucket that a digit leads to.

@@ -10,7 +10,7 @@ use native.Mathlib.Omega.{arith}
 use native.Mathlib.Nat.{zero-mul, mul-le-mul}
 use native.Mathlib.Decide.{ℕ-discrete}
 use lib.ListN.{length}
-use lib.Dec.{ltb, T}
+use lib.Dec.{T}
 use lib.Ieee.Fits.{and-l, and-r}
 use Rattle.multiset.specs.Multisets.{copies, sum, Below}
 use Rattle.multiset.proofs.MultisetLaws.{copies-cons, hit-other}
@@ -110,7 +110,7 @@ module _ (L : Layout) (B : ℕ) (img : List ℕ) (good : Good L B img) where
       let r : (f : ℕ) × (home B (p / 16) (p % 16) ≡ some f) =
       rw low at (member-home B (p / 16) (x * 16 + p % 16) (inBack L B (p / 16) img) valid s) in
       let at = bucketOf-home B (p / 16) (p % 16) (r .0) (omega arith) (r .1) in
-      (ltb (p % 16) 8, r .0, home-lt B (p / 16) (p % 16) (r .0) (omega arith) (r .1), omega (arith, at .0, at .1))
+      (at .0, r .0, home-lt B (p / 16) (p % 16) (r .0) (omega arith) (r .1), omega (arith, at .1, at .2))
 
   -- the backyard members with key x: by bucket and crumb, by place, by front bucket
   behind-key : (x : ℕ) → sum (λ (j : ℕ). sum (behind L B img j x) 0 16) 0 (backyards B) ≡ sum (λ (f : ℕ). over L B f x img) 0 (fronts B)

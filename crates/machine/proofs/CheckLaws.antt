@@ -8,7 +8,7 @@ use mathlib.Core.Option.{Option, none, some}
 use native.Mathlib.Omega.{arith}
 use native.Mathlib.Decide.{ℕ-discrete}
 use lib.ListN.{length, getD}
-use lib.Dec.{ltb, T}
+use lib.Dec.{T}
 use lib.Ieee.Fits.{and-l, and-r}
 use borrow.Author.Tests.{eq-eqb, le-leb, eqb-true, leb-true}
 use Rattle.multiset.specs.Multisets.{copies, largest}
@@ -46,9 +46,8 @@ module _ (L : Layout) (B : ℕ) (img : List ℕ) (good : Good L B img) where
   unfolding part
   member-over j y f c e =
       let back = bucketOf-home B j (y % 16) f (omega arith) e in
-      let t : Bool = ltb (y % 16) 8 in
-      let same : part L B t f (y / 16) img ≡ copies y (inBack L B j img) = rw (back .0, back .1, whole) refl in
-      omega (arith, over-part t f (y / 16))
+      let same : part L B (back .0) f (y / 16) img ≡ copies y (inBack L B j img) = rw (back .1, back .2, whole) refl in
+      omega (arith, over-part (back .0) f (y / 16))
     where
       whole : y / 16 * 16 + y % 16 ≡ y
       whole = omega arith

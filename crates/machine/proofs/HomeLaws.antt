@@ -7,7 +7,7 @@ use mathlib.Core.List.{List}
 use mathlib.Core.Option.{Option, none, some}
 use native.Mathlib.Omega.{arith}
 use lib.ListN.{length}
-use lib.Dec.{ltb, T}
+use lib.Dec.{T}
 use Rattle.multiset.specs.Multisets.{ascending}
 use Rattle.multiset.proofs.OrderLaws.{largest-max}
 use Rattle.crumbmap.specs.Layouts.{Layout, fronts}
@@ -41,9 +41,9 @@ module _ (L : Layout) (B : ℕ) (img : List ℕ) (checked : checkSized L B img �
         front = f;
         inside = l;
         back = e;
-        choice = ltb (y % 16) 8;
-        crumb = b .1;
-        bucket = b .0;
+        choice = b .0;
+        crumb = b .2;
+        bucket = b .1;
         members = inFront L f img;
         read = front-passed L B img checked f l;
         full = turn .0;

@@ -13,6 +13,7 @@ use crate::bucket::{Bytes, Member};
 use crate::calls::{self, bag, member, members, read_backyard, read_front, Asked, Bag, Place};
 use crate::calls::{LINES, OCCUPANCY_BYTES};
 use crate::fingerprint::Fingerprint;
+use crate::map::split;
 use crate::shape::{Shape, BACKYARD_SLOTS, BUCKET, FRONT_SLOTS};
 use crate::stored::{row_hashes, Images, Line};
 use std::collections::HashSet;
@@ -161,6 +162,22 @@ pub const ALL: &[&str] = &[
     "check: 8, several",
     "check: accepted",
     "check: accepted, overflow",
+    "check: accepted, crumb 0",
+    "check: accepted, crumb 1",
+    "check: accepted, crumb 2",
+    "check: accepted, crumb 3",
+    "check: accepted, crumb 4",
+    "check: accepted, crumb 5",
+    "check: accepted, crumb 6",
+    "check: accepted, crumb 7",
+    "check: accepted, crumb 8",
+    "check: accepted, crumb 9",
+    "check: accepted, crumb 10",
+    "check: accepted, crumb 11",
+    "check: accepted, crumb 12",
+    "check: accepted, crumb 13",
+    "check: accepted, crumb 14",
+    "check: accepted, crumb 15",
     "check: accepted, overflow equal to the largest",
     "merge: 1, first",
     "merge: 1, second",
@@ -1052,6 +1069,7 @@ fn check(names: &mut Names, image: &[u8]) {
                     let f = shape.front_of(j, x.crumb).expect("a valid crumb");
                     let front = read_front(image, f).expect("a sound bucket");
                     names.add("check: accepted, overflow");
+                    names.add(&format!("check: accepted, crumb {}", x.crumb));
                     names.add_if(
                         (front[27].mini, front[27].tag) == (x.mini, x.tag),
                         "check: accepted, overflow equal to the largest",
@@ -1123,7 +1141,7 @@ fn unsound(names: &mut Names, image: &[u8], shape: Shape, table: u64) {
     let j = table - shape.fronts();
     for slot in 0..n {
         if shape.front_of(j, crumb(slot)).is_none() {
-            return add(if crumb(slot) < 8 {
+            return add(if split(crumb(slot)).0 == 0 {
                 "choice 0 invalid"
             } else if j / (shape.b / 8 + 1) >= 8 {
                 "choice 1 invalid, e at least 8"

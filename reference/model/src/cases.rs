@@ -1,6 +1,6 @@
 //! The calls that are stored for the program `trial`: document 01's cases one by one, then
 //! short random histories, then rows of three asks, then occupancy pages, then asks where copies
-//! stand, then tails and moves, then walks. Always the same lines.
+//! stand, then tails and moves, then walks, then the sixteen crumbs. Always the same lines.
 
 mod tails;
 mod walks;
@@ -876,6 +876,21 @@ fn copies_at_ends(p: &mut Player) {
     }
 }
 
+/// Each of the sixteen crumbs, in a backyard bucket where all are valid: its front bucket alone is
+/// full, then none is.
+fn crumbs(p: &mut Player) {
+    let shape = Shape { b: 16 };
+    p.fresh(0, shape.b);
+    for crumb in 0..16 {
+        let f = shape.front_of(9, crumb).expect("a valid crumb");
+        p.put_backyard(0, 9, overflow(1, crumb));
+        p.put_front(0, f, full_front());
+        p.check(0);
+        p.put_front(0, f, vec![]);
+        p.check(0);
+    }
+}
+
 /// The stored input.
 pub fn input() -> String {
     let mut text = String::new();
@@ -903,6 +918,7 @@ pub fn input() -> String {
     copies(p);
     tails::tails(p);
     walks::walks(p);
+    crumbs(p);
     text
 }
 

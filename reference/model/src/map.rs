@@ -9,6 +9,29 @@ pub struct Home {
     pub crumb: u64,
 }
 
+/// Choice and digit of a crumb, by its sixteen values.
+pub fn split(crumb: u64) -> (u64, u64) {
+    match crumb {
+        0 => (0, 0),
+        1 => (0, 1),
+        2 => (0, 2),
+        3 => (0, 3),
+        4 => (0, 4),
+        5 => (0, 5),
+        6 => (0, 6),
+        7 => (0, 7),
+        8 => (1, 0),
+        9 => (1, 1),
+        10 => (1, 2),
+        11 => (1, 3),
+        12 => (1, 4),
+        13 => (1, 5),
+        14 => (1, 6),
+        15 => (1, 7),
+        _ => panic!("a crumb of four bits"),
+    }
+}
+
 impl Shape {
     /// Document 01's K.
     fn stride(self) -> u64 {
@@ -35,7 +58,7 @@ impl Shape {
 
     /// The front bucket that a crumb in backyard bucket j stands for, if the crumb is valid.
     pub fn front_of(self, j: u64, crumb: u64) -> Option<u64> {
-        let (choice, d) = (crumb / 8, crumb % 8);
+        let (choice, d) = split(crumb);
         if choice == 0 {
             (j < self.b).then_some(8 * j + d)
         } else {
@@ -65,6 +88,16 @@ mod tests {
         assert_eq!(Shape { b: 20 }.front_of(13, 12), Some(100));
         assert_eq!(Shape { b: 20 }.front_of(13, 3), Some(107));
         assert_eq!(Shape { b: 3 }.front_of(8, 8), None);
+    }
+
+    /// A crumb is 8 × choice + digit.
+    #[test]
+    fn sixteen_crumbs() {
+        for crumb in 0..16 {
+            let (choice, digit) = split(crumb);
+            assert!(choice < 2 && digit < 8);
+            assert_eq!(8 * choice + digit, crumb);
+        }
     }
 
     /// Forth and back gives the same front bucket, and every valid crumb comes from one.

@@ -8,6 +8,7 @@ use Rattle.crumbmap.specs.Layouts.{backyards}
 use Rattle.crumbmap.specs.CrumbMap.{bucketOf, crumbOf}
 use Rattle.crumbmap.specs.declared.Overflow.{Overflow}
 use Rattle.crumbmap.specs.declared.Ways.{Ways}
+use Rattle.crumbmap.specs.declared.Split.{Split}
 use Rattle.crumbmap.specs.declared.Homes.{Homes}
 use Rattle.crumbmap.specs.declared.Home.{Home}
 use Rattle.crumbmap.specs.declared.Home.the-variants.{At, Invalid}
@@ -23,6 +24,12 @@ pub record Leads (t : Bool) (B f : ℕ) (r : Overflow) : Type 0 where
 pub record LeadsBoth (B f : ℕ) (r : Ways) : Type 0 where
   pub first : Leads true B f (r .first)
   pub second : Leads false B f (r .second)
+
+-- choice and digit of a crumb, "8 × choice + digit"
+pub record Splits (c : ℕ) (r : Split) : Type 0 where
+  pub value : 8 * r .0 + r .1 ≡ c
+  pub choice : r .0 < 2
+  pub digit : r .1 < 8
 
 -- the front bucket of the way back
 abbrev pub homeOf : Option ℕ → Home

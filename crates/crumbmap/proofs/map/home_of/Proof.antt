@@ -1,47 +1,43 @@
--- `home_of` goes back by the crumb's choice.
+-- `home_of` goes back by the crumb's choice, with its digit.
 use mathlib.Core.Path.{_≡_}
-use Prim.Native.Nat.{_<_, _≤_, _%_, _-_}
+use mathlib.Core.Bool.{true, false}
 use native.Mathlib.Omega.{arith}
 use borrow.Author.Needs.{needs}
-use borrow.Author.Tests.{lt-ltb, le-ltb}
 use Rattle.crumbmap.specs.Layouts.{fronts}
 use Rattle.crumbmap.specs.CrumbMap.{home}
 use Rattle.crumbmap.specs.Steps.Places.{homeIn}
+use Rattle.crumbmap.proofs.SplitLaws.{crumbAt, home-digit}
 use Rattle.crumbmap.proofs.CrumbMapLaws.{homeIn-lt}
 use Rattle.crumbmap.proofs.map.home_of.Statement.{statement}
 use Rattle.crumbmap.proofs.map.home_of.Tie as tie
 
--- a crumb of choice 0 is its digit
-by-first : (c : tie.After-first-homes) → let a = c .before .before .args in home (a .size) (a .from .0) (a .crumb) ≡ homeIn (c .first-homes .result) (a .crumb % 8)
-unfolding home
+by-first : (c : tie.After-digit-of)
+    → let a = c .before .before .before .before .args in home (a .size) (a .from .0) (a .crumb) ≡ homeIn (c .before .first-homes .result) (c .digit-of .result)
 by-first c =
-    let crumb = c .before .before .args .crumb in
-    let first : crumb < 8 = omega arith in
-    let digit : crumb % 8 ≡ crumb = omega arith in
-    rw (lt-ltb _ _ first, digit) (c .first-homes .ensures .leads crumb first)
+    let a = c .before .before .before .before .args in
+    let value : crumbAt true (c .digit-of .result) ≡ a .crumb = omega arith in
+    rw (← value) (home-digit true (a .size) (a .from .0) (c .digit-of .result) (omega arith) (c .before .first-homes .ensures))
 
 home-at-requires : tie.Need-home-at-requires
 unfolding fronts
 home-at-requires c κs l =
-    let a = c .before .before .args in
+    let a = c .before .before .before .before .args in
     omega (arith, homeIn-lt (a .size) (a .from .0) (a .crumb) _ _ (omega arith) (by-first c) l)
 
 returns : tie.Need-returns
 returns c = rw (by-first (c .before)) (c .home-at .ensures)
 
--- a crumb of choice 1 is its digit and 8
-by-second : (c : tie.After-second-homes) → let a = c .before .before .args in home (a .size) (a .from .0) (a .crumb) ≡ homeIn (c .second-homes .result) (a .crumb % 8)
-unfolding home
+by-second : (c : tie.After-digit-of2)
+    → let a = c .before .before .before .before .args in home (a .size) (a .from .0) (a .crumb) ≡ homeIn (c .before .second-homes .result) (c .digit-of2 .result)
 by-second c =
-    let crumb = c .before .before .args .crumb in
-    let second : 8 ≤ crumb = omega arith in
-    let digit : crumb % 8 ≡ crumb - 8 = omega arith in
-    rw (le-ltb _ _ second, digit) (c .second-homes .ensures .leads (crumb - 8) (omega arith))
+    let a = c .before .before .before .before .args in
+    let value : crumbAt false (c .digit-of2 .result) ≡ a .crumb = omega arith in
+    rw (← value) (home-digit false (a .size) (a .from .0) (c .digit-of2 .result) (omega arith) (c .before .second-homes .ensures))
 
 home-at-requires-2 : tie.Need-home-at-requires-2
 unfolding fronts
 home-at-requires-2 c κs l =
-    let a = c .before .before .args in
+    let a = c .before .before .before .before .args in
     omega (arith, homeIn-lt (a .size) (a .from .0) (a .crumb) _ _ (omega arith) (by-second c) l)
 
 returns-2 : tie.Need-returns-2
@@ -52,10 +48,11 @@ home-of-spec =
     tie.close
     (tie.spec
     (λ c κs. search needs)
-    (λ c. search needs)
+    (λ c κs. search needs)
+    (λ c κs. search needs)
     home-at-requires
     returns
     (λ c κs. search needs)
-    (λ c. search needs)
+    (λ c κs. search needs)
     home-at-requires-2
     returns-2)
