@@ -1,8 +1,8 @@
 -- The map and its way back undo each other, for either choice; numbers are in range; no two front buckets share a (bucket, crumb).
 -- Main results: `home-bucketOf`, `bucketOf-home`, `bucketOf-lt`, `crumbOf-lt`, `home-lt`, `front-unique`, `choice-unique`.
 use mathlib.Core.Path.{_≡_, refl, sym, _∙_, ap}
-use Prim.Native.Nat.{ℕ, _+_, _*_, _/_, _%_, _-_, _≤_, _<_}
-use mathlib.Core.Bool.{Bool, true, false, cond, _&&_}
+use Prim.Native.Nat.{ℕ, zero, suc, _+_, _*_, _/_, _%_, _≤_, _<_}
+use mathlib.Core.Bool.{Bool, true, false, cond}
 use mathlib.Core.Option.{none, some}
 use native.Mathlib.Nat.{mul-le-mul-right, add-mul-div-right, add-mul-mod-self-right, div-eq-of-lt, mod-eq-of-lt, mod-add-div'}
 use native.Mathlib.Omega.{arith}
@@ -10,10 +10,10 @@ use lib.Dec.{ltb}
 use borrow.Author.Tests.{lt-ltb, ltb-true}
 use Rattle.crumbmap.specs.Layouts.{fronts, backyards}
 use Rattle.crumbmap.specs.CrumbMap.{stride, firstBucket, firstCrumb, secondBucket, secondCrumb, bucketOf, crumbOf, firstHome, secondHome, home}
-use Rattle.crumbmap.specs.Steps.Places.{homeIn}
+use Rattle.crumbmap.specs.Steps.Places.{Splits, homeIn}
 use Rattle.crumbmap.specs.declared.Homes.{Homes}
 use Rattle.crumbmap.proofs.TestLaws.{both-true}
-use Rattle.crumbmap.proofs.SplitLaws.{crumbAt, split, home-split}
+use Rattle.crumbmap.proofs.SplitLaws.{split, homeBy, home-split}
 
 pub bucketOf-lt : (t : Bool) (B f : ℕ) → f < fronts B → bucketOf t B f < backyards B
 unfolding firstBucket firstCrumb secondBucket stride fronts backyards
@@ -34,23 +34,30 @@ second-quotient K t e h = add-mul-div-right t e {z = K} (omega arith) ∙ ap (λ
 second-remainder : (K t e : ℕ) → t < K → (t + e * K) % K ≡ t
 second-remainder K t e h = add-mul-mod-self-right t e K ∙ mod-eq-of-lt h
 
+-- "choice 0 with d0", "choice 1 with d1"
+first-splits : (f : ℕ) → Splits (firstCrumb f) (record { 0 = 0; 1 = f % 8 })
+unfolding firstCrumb
+first-splits f = record { value = omega arith; choice = omega arith; digit = omega arith }
+
+second-splits : (f : ℕ) → Splits (secondCrumb f) (record { 0 = 1; 1 = f / 8 % 8 })
+unfolding firstBucket secondCrumb
+second-splits f = record { value = omega arith; choice = omega arith; digit = omega arith }
+
 -- back of map is the front bucket
 pub home-bucketOf : (t : Bool) (B f : ℕ) → f < fronts B → home B (bucketOf t B f) (crumbOf t f) ≡ some f
-unfolding firstBucket firstCrumb secondBucket secondCrumb stride fronts firstHome secondHome
+unfolding firstBucket firstCrumb secondBucket stride fronts firstHome secondHome
 home-bucketOf true B f h =
-    let d : f % 8 < 8 = omega arith in
     let b : f / 8 < B = omega arith in
     let e : 8 * (f / 8) + f % 8 ≡ f = omega arith in
-    home-split true B (f / 8) (f % 8) d ∙ rw (lt-ltb _ _ b, e)
+    home-split (first-splits f) B (f / 8) ∙ rw (lt-ltb _ _ b, e)
 home-bucketOf false B f h =
     let K : ℕ = stride B in
     let t : ℕ = f / 8 / 8 in
     let small : t < K = omega arith in
-    let d : f / 8 % 8 < 8 = omega arith in
     let e : f % 8 < 8 = omega arith in
     let b : 8 * t + f / 8 % 8 < B = omega arith in
     let s : 64 * t + 8 * (f / 8 % 8) + f % 8 ≡ f = omega arith in
-    home-split false B (t + f % 8 * K) (f / 8 % 8) d
+    home-split (second-splits f) B (t + f % 8 * K)
     ∙ rw (second-quotient K t (f % 8) small, second-remainder K t (f % 8) small, lt-ltb _ _ e, lt-ltb _ _ b, s)
 
 -- ---- map of back
@@ -59,31 +66,31 @@ cond-some : (b : Bool) (x f : ℕ) → cond b (some x) none ≡ some f → (b �
 cond-some true x f e = (refl, cc)
 cond-some false x f e = let z : _≡_ {A = ℕ} 0 1 = cc in absurd (omega arith)
 
--- a crumb that is valid leads home by its choice, with its digit d
+-- a crumb that is valid leads home by its choice, with its digit
 data Valid (B j c f : ℕ) : Type 0 where
-  by-first : (d : ℕ) → crumbAt true d ≡ c → d < 8 → j < B → 8 * j + d ≡ f → Valid B j c f
-  by-second : (d : ℕ) → crumbAt false d ≡ c → d < 8 → j / stride B < 8 → 8 * (j % stride B) + d < B → 64 * (j % stride B) + 8 * d + j / stride B ≡ f → Valid B j c f
+  by-first : c / 8 ≡ 0 → j < B → 8 * j + c % 8 ≡ f → Valid B j c f
+  by-second : c / 8 ≡ 1 → j / stride B < 8 → 8 * (j % stride B) + c % 8 < B → 64 * (j % stride B) + 8 * (c % 8) + j / stride B ≡ f → Valid B j c f
 
 home-valid : (B j c f : ℕ) → c < 16 → home B j c ≡ some f → Valid B j c f
 unfolding firstHome secondHome
-home-valid B j c f l e = let s = split c l in go (s .choice) (s .digit) (s .small) (s .value)
+home-valid B j c f l e = go (c / 8) refl (sym (home-split (split c l) B j) ∙ e)
   where
-    go : (t : Bool) (d : ℕ) → d < 8 → crumbAt t d ≡ c → Valid B j c f
-    go true d k p =
-        let h = cond-some (ltb j B) (8 * j + d) f (sym (home-split true B j d k) ∙ ap (home B j) p ∙ e) in
-        by-first d p k (ltb-true j B (h .0)) (h .1)
-    go false d k p =
-        let h = cond-some _ (64 * (j % stride B) + 8 * d + j / stride B) f (sym (home-split false B j d k) ∙ ap (home B j) p ∙ e) in
+    go : (k : ℕ) → c / 8 ≡ k → homeBy k B j (c % 8) ≡ some f → Valid B j c f
+    go zero z g =
+        let h = cond-some (ltb j B) (8 * j + c % 8) f g in
+        by-first z (ltb-true j B (h .0)) (h .1)
+    go (suc k) z g =
+        let h = cond-some _ (64 * (j % stride B) + 8 * (c % 8) + j / stride B) f g in
         let b = both-true _ _ (h .0) in
-        by-second d p k (ltb-true _ _ (b .0)) (ltb-true _ _ (b .1)) (h .1)
+        by-second (omega arith) (ltb-true _ _ (b .0)) (ltb-true _ _ (b .1)) (h .1)
 
 pub home-lt : (B j c f : ℕ) → c < 16 → home B j c ≡ some f → f < fronts B
 unfolding fronts
 home-lt B j c f l e = go (home-valid B j c f l e)
   where
     go : Valid B j c f → f < 8 * B
-    go (by-first d p h b s) = omega arith
-    go (by-second d p h b i s) = omega arith
+    go (by-first z b s) = omega arith
+    go (by-second z b d s) = omega arith
 
 -- a valid digit's front bucket is in range
 pub homeIn-lt : (B j c : ℕ) (r : Homes) (d : ℕ) → c < 16 → home B j c ≡ homeIn r d → d < r .digits → r .start + r .step * d < fronts B
@@ -95,8 +102,8 @@ unfolding firstBucket firstCrumb secondBucket secondCrumb
 bucketOf-home B j c f l e = go (home-valid B j c f l e)
   where
     go : Valid B j c f → (t : Bool) × (bucketOf t B f ≡ j) × (crumbOf t f ≡ c)
-    go (by-first d p h b s) = (true, omega arith, omega arith)
-    go (by-second d p h b i s) =
+    go (by-first z b s) = (true, omega arith, omega arith)
+    go (by-second z b d s) =
         let q : f / 8 / 8 ≡ j % stride B = omega arith in
         let r : f % 8 ≡ j / stride B = omega arith in
         (false, rw (q, r) (mod-add-div' j (stride B)), omega arith)

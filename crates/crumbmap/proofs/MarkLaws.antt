@@ -1,7 +1,7 @@
 -- Bits that mark which digits have a home: the lowest k of them, and the marks of both choices side by side.
 -- Main results: `ones-in`, `marks-back`, `marks-home`.
 use mathlib.Core.Path.{_≡_, refl, sym, _∙_, ap}
-use Prim.Native.Nat.{ℕ, suc, _+_, _*_, _-_, _/_, _%_, _^_, _≤_, _<_}
+use Prim.Native.Nat.{ℕ, zero, suc, _+_, _*_, _-_, _/_, _%_, _^_, _≤_, _<_}
 use native.Mathlib.Nat.{div-eq-of-lt, pow-suc, one-mul, lt-of-lt-of-le}
 use native.Mathlib.Omega.{arith}
 use mathlib.Core.Bool.{Bool, true, false, cond}
@@ -13,7 +13,7 @@ use Rattle.crumbmap.specs.CrumbMap.{home, firstHome, secondHome}
 use Rattle.crumbmap.specs.Steps.Places.{LeadsBack}
 use Rattle.crumbmap.specs.Steps.Marks.{Marks, bitOf}
 use Rattle.crumbmap.specs.declared.Homes.{Homes}
-use Rattle.crumbmap.proofs.SplitLaws.{crumbAt, split, home-split}
+use Rattle.crumbmap.proofs.SplitLaws.{split, homeBy, home-split}
 
 odd-ones : (j : ℕ) → (2 ^ suc j - 1) % 2 ≡ 1
 odd-ones j = rw (pow-suc 2 j) (omega (arith, pow-pos j))
@@ -55,14 +55,16 @@ module _ (hi lo d : ℕ) (small : lo < 2 ^ 8) where
 
 -- the marks of choice 0 below those of choice 1: each crumb's bit is that of its digit
 pub marks-home : (B j lo hi : ℕ) → Marks 8 (firstHome B j) lo → Marks 8 (secondHome B j) hi → Marks 16 (home B j) (lo + 256 * hi)
-marks-home B j lo hi m n = record {
-  small = omega (arith, m .small, n .small);
-  bits = λ c l. let s = split c l in rw (e, ← s .value) (go (s .choice) (s .digit) (s .small));
-}
+marks-home B j lo hi m n =
+    record { small = omega (arith, m .small, n .small); bits = λ c l. rw (e, home-split (split c l) B j) (go c l (c / 8) refl) }
   where
     e : lo + 256 * hi ≡ hi * 2 ^ 8 + lo
     e = omega arith
 
-    go : (t : Bool) (d : ℕ) → d < 8 → (hi * 2 ^ 8 + lo) / 2 ^ crumbAt t d % 2 ≡ bitOf (home B j (crumbAt t d))
-    go true d l = bit-low hi lo d (m .small) l ∙ m .bits d l ∙ ap bitOf (sym (home-split true B j d l))
-    go false d l = bit-high hi lo d (m .small) ∙ n .bits d l ∙ ap bitOf (sym (home-split false B j d l))
+    go : (c : ℕ) → c < 16 → (k : ℕ) → c / 8 ≡ k → (hi * 2 ^ 8 + lo) / 2 ^ c % 2 ≡ bitOf (homeBy k B j (c % 8))
+    go c l zero z =
+        let d : c ≡ c % 8 = omega arith in
+        ap (λ (x : ℕ). (hi * 2 ^ 8 + lo) / 2 ^ x % 2) d ∙ bit-low hi lo (c % 8) (m .small) (omega arith) ∙ m .bits (c % 8) (omega arith)
+    go c l (suc k) z =
+        let d : c ≡ 8 + c % 8 = omega arith in
+        ap (λ (x : ℕ). (hi * 2 ^ 8 + lo) / 2 ^ x % 2) d ∙ bit-high hi lo (c % 8) (m .small) ∙ n .bits (c % 8) (omega arith)

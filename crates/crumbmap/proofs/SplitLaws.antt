@@ -1,47 +1,33 @@
--- A crumb by choice and digit: each of the sixteen has them, and the way back goes by them.
--- Main results: `split`, `home-split`, `home-digit`.
-use mathlib.Core.Path.{_≡_, refl, _∙_}
-use Prim.Native.Nat.{ℕ, _+_, _-_, _<_, _≤_}
+-- A crumb taken apart into choice and digit: / 8 and % 8 do it, and however it is done, the way back goes by them.
+-- Main results: `split`, `home-split`.
+use mathlib.Core.Path.{_≡_, refl}
+use Prim.Native.Nat.{ℕ, zero, suc, _-_, _/_, _%_, _<_, _≤_}
 use native.Mathlib.Omega.{arith}
-use mathlib.Core.Bool.{Bool, true, false}
 use mathlib.Core.Option.{Option}
-use lib.Dec.{ltb}
-use borrow.Author.Tests.{lt-ltb, le-ltb, ltb-true, ltb-false}
+use borrow.Author.Tests.{lt-ltb, le-ltb}
 use Rattle.crumbmap.specs.CrumbMap.{firstHome, secondHome, home}
-use Rattle.crumbmap.specs.Steps.Places.{LeadsBack, homeIn}
-use Rattle.crumbmap.specs.declared.Homes.{Homes}
+use Rattle.crumbmap.specs.Steps.Places.{Splits}
+use Rattle.crumbmap.specs.declared.Split.{Split}
 
--- "8 × choice + digit", and the way back of a choice
-abbrev pub crumbAt : Bool → ℕ → ℕ
-crumbAt true d = d
-crumbAt false d = 8 + d
+pub split : (c : ℕ) → c < 16 → Splits c (record { 0 = c / 8; 1 = c % 8 })
+split c l = record { value = omega arith; choice = omega arith; digit = omega arith }
 
-abbrev pub homeBy : Bool → ℕ → ℕ → ℕ → Option ℕ
-homeBy true = firstHome
-homeBy false = secondHome
+-- the way back of choice 0, and of choice 1
+abbrev pub homeBy : ℕ → ℕ → ℕ → ℕ → Option ℕ
+homeBy zero = firstHome
+homeBy (suc k) = secondHome
 
-pub record Apart (c : ℕ) : Type 0 where
-  pub choice : Bool
-  pub digit : ℕ
-  pub small : digit < 8
-  pub value : crumbAt choice digit ≡ c
-
-pub split : (c : ℕ) → c < 16 → Apart c
-split c l = go (ltb c 8) refl
-  where
-    go : (t : Bool) → ltb c 8 ≡ t → Apart c
-    go true e = record { choice = true; digit = c; small = ltb-true c 8 e; value = refl }
-    go false e = record { choice = false; digit = c - 8; small = omega arith; value = omega (arith, ltb-false c 8 e) }
-
--- the specification's comparison with 8 tells the choice
-pub home-split : (t : Bool) (B j d : ℕ) → d < 8 → home B j (crumbAt t d) ≡ homeBy t B j d
+-- the specification's comparison of a crumb with 8 goes by its choice, with its digit
+pub home-split : {c : ℕ} {r : Split} → Splits c r → (B j : ℕ) → home B j c ≡ homeBy (r .0) B j (r .1)
 unfolding home
-home-split true B j d l = rw (lt-ltb d 8 l)
-home-split false B j d l =
-    let e : 8 + d - 8 ≡ d = omega arith in
-    let h : 8 ≤ 8 + d = omega arith in
-    rw (le-ltb (8 + d) 8 h, e)
-
--- as the code has the way back of a choice
-pub home-digit : (t : Bool) (B j d : ℕ) {r : Homes} → d < 8 → LeadsBack (homeBy t B j) r → home B j (crumbAt t d) ≡ homeIn r d
-home-digit t B j d l b = home-split t B j d l ∙ b .leads d l
+home-split {c = c} {r = r} s B j = go (r .0) refl
+  where
+    go : (k : ℕ) → r .0 ≡ k → home B j c ≡ homeBy k B j (r .1)
+    go zero e =
+        let d : c ≡ r .1 = omega (arith, s .value) in
+        let l : c < 8 = omega (arith, s .digit) in
+        rw (lt-ltb c 8 l, d)
+    go (suc k) e =
+        let d : c - 8 ≡ r .1 = omega (arith, s .value, s .choice) in
+        let l : 8 ≤ c = omega (arith, s .value) in
+        rw (le-ltb c 8 l, d)

@@ -1,12 +1,11 @@
 -- `home_of` goes back by the crumb's choice, with its digit.
-use mathlib.Core.Path.{_≡_}
-use mathlib.Core.Bool.{true, false}
+use mathlib.Core.Path.{_≡_, _∙_}
 use native.Mathlib.Omega.{arith}
 use borrow.Author.Needs.{needs}
 use Rattle.crumbmap.specs.Layouts.{fronts}
 use Rattle.crumbmap.specs.CrumbMap.{home}
-use Rattle.crumbmap.specs.Steps.Places.{homeIn}
-use Rattle.crumbmap.proofs.SplitLaws.{crumbAt, home-digit}
+use Rattle.crumbmap.specs.Steps.Places.{Splits, homeIn}
+use Rattle.crumbmap.proofs.SplitLaws.{home-split}
 use Rattle.crumbmap.proofs.CrumbMapLaws.{homeIn-lt}
 use Rattle.crumbmap.proofs.map.home_of.Statement.{statement}
 use Rattle.crumbmap.proofs.map.home_of.Tie as tie
@@ -15,8 +14,8 @@ by-first : (c : tie.After-digit-of)
     → let a = c .before .before .before .before .args in home (a .size) (a .from .0) (a .crumb) ≡ homeIn (c .before .first-homes .result) (c .digit-of .result)
 by-first c =
     let a = c .before .before .before .before .args in
-    let value : crumbAt true (c .digit-of .result) ≡ a .crumb = omega arith in
-    rw (← value) (home-digit true (a .size) (a .from .0) (c .digit-of .result) (omega arith) (c .before .first-homes .ensures))
+    let s : Splits (a .crumb) (record { 0 = 0; 1 = c .digit-of .result }) = record { value = omega arith; choice = omega arith; digit = omega arith } in
+    home-split s (a .size) (a .from .0) ∙ c .before .first-homes .ensures .leads (c .digit-of .result) (s .digit)
 
 home-at-requires : tie.Need-home-at-requires
 unfolding fronts
@@ -31,8 +30,8 @@ by-second : (c : tie.After-digit-of2)
     → let a = c .before .before .before .before .args in home (a .size) (a .from .0) (a .crumb) ≡ homeIn (c .before .second-homes .result) (c .digit-of2 .result)
 by-second c =
     let a = c .before .before .before .before .args in
-    let value : crumbAt false (c .digit-of2 .result) ≡ a .crumb = omega arith in
-    rw (← value) (home-digit false (a .size) (a .from .0) (c .digit-of2 .result) (omega arith) (c .before .second-homes .ensures))
+    let s : Splits (a .crumb) (record { 0 = 1; 1 = c .digit-of2 .result }) = record { value = omega arith; choice = omega arith; digit = omega arith } in
+    home-split s (a .size) (a .from .0) ∙ c .before .second-homes .ensures .leads (c .digit-of2 .result) (s .digit)
 
 home-at-requires-2 : tie.Need-home-at-requires-2
 unfolding fronts
