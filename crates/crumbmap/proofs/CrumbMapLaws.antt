@@ -1,5 +1,5 @@
 -- The map and its way back undo each other, for either choice; numbers are in range; no two front buckets share a (bucket, crumb).
--- Main results: `home-bucketOf`, `bucketOf-home`, `bucketOf-lt`, `crumbOf-lt`, `home-lt`, `front-unique`, `choice-unique`.
+-- Main results: `home-bucketOf`, `bucketOf-home`, `home-digit`, `bucketOf-lt`, `crumbOf-lt`, `home-lt`, `front-unique`, `choice-unique`.
 use mathlib.Core.Path.{_≡_, refl, sym, _∙_, ap}
 use Prim.Native.Nat.{ℕ, zero, suc, _+_, _*_, _/_, _%_, _≤_, _<_}
 use mathlib.Core.Bool.{Bool, true, false, cond}
@@ -10,7 +10,8 @@ use lib.Dec.{ltb}
 use borrow.Author.Tests.{lt-ltb, ltb-true}
 use Rattle.crumbmap.specs.Layouts.{fronts, backyards}
 use Rattle.crumbmap.specs.CrumbMap.{stride, firstBucket, firstCrumb, secondBucket, secondCrumb, bucketOf, crumbOf, firstHome, secondHome, home}
-use Rattle.crumbmap.specs.Steps.Places.{Splits, homeIn}
+use Rattle.crumbmap.specs.Steps.Places.{Splits, LeadsBack, homeIn}
+use Rattle.crumbmap.specs.declared.Split.{Split}
 use Rattle.crumbmap.specs.declared.Homes.{Homes}
 use Rattle.crumbmap.proofs.TestLaws.{both-true}
 use Rattle.crumbmap.proofs.SplitLaws.{split, homeBy, home-split}
@@ -37,11 +38,11 @@ second-remainder K t e h = add-mul-mod-self-right t e K ∙ mod-eq-of-lt h
 -- "choice 0 with d0", "choice 1 with d1"
 first-splits : (f : ℕ) → Splits (firstCrumb f) (record { 0 = 0; 1 = f % 8 })
 unfolding firstCrumb
-first-splits f = record { value = omega arith; choice = omega arith; digit = omega arith }
+first-splits f = omega arith
 
 second-splits : (f : ℕ) → Splits (secondCrumb f) (record { 0 = 1; 1 = f / 8 % 8 })
 unfolding firstBucket secondCrumb
-second-splits f = record { value = omega arith; choice = omega arith; digit = omega arith }
+second-splits f = omega arith
 
 -- back of map is the front bucket
 pub home-bucketOf : (t : Bool) (B f : ℕ) → f < fronts B → home B (bucketOf t B f) (crumbOf t f) ≡ some f
@@ -92,9 +93,13 @@ home-lt B j c f l e = go (home-valid B j c f l e)
     go (by-first z b s) = omega arith
     go (by-second z b d s) = omega arith
 
--- a valid digit's front bucket is in range
-pub homeIn-lt : (B j c : ℕ) (r : Homes) (d : ℕ) → c < 16 → home B j c ≡ homeIn r d → d < r .digits → r .start + r .step * d < fronts B
-homeIn-lt B j c r d l e h = home-lt B j c (r .start + r .step * d) l (e ∙ rw (lt-ltb _ _ h))
+-- a choice's way back as the code has it: at the crumb's digit it is the crumb's, and in range
+module _ (B j : ℕ) {c : ℕ} {r : Split} {homes : Homes} (s : Splits c r) (b : LeadsBack (homeBy (r .0) B j) homes) where
+  pub home-digit : home B j c ≡ homeIn homes (r .1)
+  home-digit = home-split s B j ∙ b .leads (r .1) (s .digit)
+
+  pub home-digit-lt : r .1 < homes .digits → homes .start + homes .step * r .1 < fronts B
+  home-digit-lt h = home-lt B j c (homes .start + homes .step * r .1) (omega (arith, s .value, s .choice, s .digit)) (home-digit ∙ rw (lt-ltb _ _ h))
 
 -- map of back, where valid, is the bucket and the crumb, by one of the choices
 pub bucketOf-home : (B j c f : ℕ) → c < 16 → home B j c ≡ some f → (t : Bool) × (bucketOf t B f ≡ j) × (crumbOf t f ≡ c)

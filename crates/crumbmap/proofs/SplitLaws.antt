@@ -10,7 +10,7 @@ use Rattle.crumbmap.specs.Steps.Places.{Splits}
 use Rattle.crumbmap.specs.declared.Split.{Split}
 
 pub split : (c : ℕ) → c < 16 → Splits c (record { 0 = c / 8; 1 = c % 8 })
-split c l = record { value = omega arith; choice = omega arith; digit = omega arith }
+split c l = omega arith
 
 -- the way back of choice 0, and of choice 1
 abbrev pub homeBy : ℕ → ℕ → ℕ → ℕ → Option ℕ

@@ -75,7 +75,8 @@ mod tests {
 
     fn homes(b: u64, f: u64) -> (u64, u64, u64, u64) {
         let (first, second) = (Shape { b }.first_home(f), Shape { b }.second_home(f));
-        (first.bucket, second.bucket, first.crumb, second.crumb - 8)
+        let (first_digit, second_digit) = (split(first.crumb).1, split(second.crumb).1);
+        (first.bucket, second.bucket, first_digit, second_digit)
     }
 
     #[test]
