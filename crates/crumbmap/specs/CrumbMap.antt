@@ -1,9 +1,9 @@
 -- The map (algorithm 1): a front bucket's two backyard buckets and the crumbs kept there, and the way back.
 -- A choice is a Bool: true for b0 (document 01's choice 0, First), false for b1 (choice 1, Second).
 use Prim.Native.Nat.{ℕ, _+_, _*_, _/_, _%_, _-_}
-use mathlib.Core.Bool.{Bool, true, false, cond, _&&_}
+use mathlib.Core.Bool.{Bool, true, false, cond, not, _&&_}
 use mathlib.Core.Option.{Option, none, some}
-use lib.Dec.{ltb}
+use lib.Dec.{ltb, eqb}
 
 -- "K = floor(B / 8) + 1"
 unfoldable pub stride : ℕ → ℕ
@@ -34,9 +34,18 @@ abbrev pub crumbOf : Bool → ℕ → ℕ
 crumbOf true f = firstCrumb f
 crumbOf false f = secondCrumb f
 
--- "Back from bucket j: choice 0, digit d gives f = 8j + d, valid if j < B"
+-- "front buckets whose two backyards coincide" (C-17): f has "b0 = b1"
+unfoldable pub coincide : ℕ → ℕ → Bool
+coincide B f = eqb (firstBucket f) (secondBucket B f)
+
+-- the choices that a member of f may carry: "such a member now always carries choice 1"
+abbrev pub allowed : Bool → ℕ → ℕ → Bool
+allowed true B f = not (coincide B f)
+allowed false B f = true
+
+-- "Back from bucket j: choice 0, digit d gives f = 8j + d, valid if j < B"; "a choice 0 crumb whose front bucket has b0 = b1 is unsound" (C-17)
 unfoldable pub firstHome : ℕ → ℕ → ℕ → Option ℕ
-firstHome B j d = cond (ltb j B) (some (8 * j + d)) none
+firstHome B j d = cond (ltb j B && not (coincide B (8 * j + d))) (some (8 * j + d)) none
 
 -- "Choice 1, digit d: e = floor(j / K), t = j mod K, f = 64t + 8d + e, valid if e < 8 and 8t + d < B"
 unfoldable pub secondHome : ℕ → ℕ → ℕ → Option ℕ

@@ -28,16 +28,8 @@ pub struct Ways {
 // A crumb taken apart: its choice and its digit.
 pub struct Split(pub usize, pub usize);
 
-// The front bucket that a crumb leads back to.
-pub enum Home {
-    At(Front),
-    Invalid,
-}
-
-// The way back from a backyard bucket by one choice: of the digits 0 to 7 the lowest `digits` are valid,
-// and digit d leads to front bucket `start` + `step` × d.
-pub struct Homes {
-    pub digits: usize,
-    pub start: usize,
-    pub step: usize,
+// A backyard bucket's number by the stride K: so many whole strides, and the rest.
+pub struct Strides {
+    pub whole: usize,
+    pub rest: usize,
 }

@@ -2,19 +2,18 @@
 
 use crate::Backyard;
 use crate::Front;
-use crate::Home;
-use crate::Homes;
 use crate::Overflow;
+use crate::Strides;
 use crate::Ways;
 use crate::crumb::choice_of;
 use crate::crumb::digit_of;
 ghost use mathlib.Core.Path.{_≡_};
-ghost use mathlib.Core.Bool.{true, false, _&&_};
-ghost use Prim.Native.Nat.{ℕ, _+_, _*_, _<_, _≤_};
-ghost use lib.Dec.{ltb};
+ghost use mathlib.Core.Bool.{true, false};
+ghost use mathlib.Core.Option.{some};
+ghost use Prim.Native.Nat.{_<_, _≤_};
 ghost use Rattle.crumbmap.specs.Layouts.{fronts, backyards};
-ghost use Rattle.crumbmap.specs.CrumbMap.{stride, home, firstHome, secondHome};
-ghost use Rattle.crumbmap.specs.Steps.Places.{Leads, LeadsBoth, LeadsBack, homeIn, homeOf};
+ghost use Rattle.crumbmap.specs.CrumbMap.{stride, coincide as coinciding, home};
+ghost use Rattle.crumbmap.specs.Steps.Places.{Leads, LeadsBoth, Strided, Homed};
 
 // Choice 0: "b0 = floor(f / 8), d0 = f mod 8".
 pub fn first_of(front: Front, size: usize) -> Overflow
@@ -53,6 +52,14 @@ pub fn ways_of(front: Front, size: usize) -> Ways
     }
 }
 
+// "b0 = b1": whether a front bucket's two backyard buckets coincide.
+pub fn coincide(front: Front, size: usize) -> bool
+    requires { ⌜ (front .0 < fronts size) × (size ≤ 65536) ⌝ }
+    ensures { λ r. ⌜ r ≡ coinciding size (front .0) ⌝ }
+{
+    first_of(front, size).bucket.0 == second_of(front, size).bucket.0
+}
+
 // "K = floor(B / 8) + 1."
 pub fn stride_of(size: usize) -> usize
     requires { ⌜ size ≤ 65536 ⌝ }
@@ -61,66 +68,29 @@ pub fn stride_of(size: usize) -> usize
     size / 8 + 1
 }
 
-// The way back from a backyard bucket and a crumb, "8 × choice + digit".
-pub fn home_of(size: usize, from: Backyard, crumb: u32) -> Home
-    requires { ⌜ (size ≤ 65536) × (from .0 < backyards size) × (crumb < 16) ⌝ }
-    ensures { λ r. ⌜ r ≡ homeOf (home size (from .0) crumb) ⌝ }
-{
-    if choice_of(crumb) == 0 {
-        return home_at(first_homes(size, from), digit_of(crumb));
-    }
-    home_at(second_homes(size, from), digit_of(crumb))
-}
-
-// The front bucket that a digit leads to.
-fn home_at(homes: Homes, digit: usize) -> Home
-    requires { ⌜ (digit < homes .digits → homes .start + homes .step * digit < fronts 65536) ⌝ }
-    ensures { λ r. ⌜ r ≡ homeOf (homeIn homes digit) ⌝ }
-{
-    if digit < homes.digits {
-        Home::At(Front(homes.start + homes.step * digit))
-    } else {
-        Home::Invalid
-    }
-}
-
-// "Choice 0, digit d gives f = 8j + d, valid if j < B", whatever the digit.
-pub fn first_homes(size: usize, from: Backyard) -> Homes
+// "e = floor(j / K), t = j mod K": of a front bucket that choice 1 leads back to, d0 and floor(b0 / 8).
+pub fn strides_of(size: usize, from: Backyard) -> Strides
     requires { ⌜ (size ≤ 65536) × (from .0 < backyards size) ⌝ }
-    ensures { λ r. ⌜ LeadsBack (firstHome size (from .0)) r ⌝ }
-{
-    let j = from.0;
-    Homes {
-        digits: if j < size { 8 } else { 0 },
-        start: 8 * j,
-        step: 1,
-    }
-}
-
-// "Choice 1, digit d: e = floor(j / K), t = j mod K, f = 64t + 8d + e".
-pub fn second_homes(size: usize, from: Backyard) -> Homes
-    requires { ⌜ (size ≤ 65536) × (from .0 < backyards size) ⌝ }
-    ensures { λ r. ⌜ LeadsBack (secondHome size (from .0)) r ⌝ }
+    ensures { λ r. ⌜ Strided size (from .0) r ⌝ }
 {
     let j = from.0;
     let stride = stride_of(size);
-    let e = j / stride;
-    let t = j % stride;
-    Homes {
-        digits: second_digits(size, e, t),
-        start: 64 * t + e,
-        step: 8,
+    Strides {
+        whole: j / stride,
+        rest: j % stride,
     }
 }
 
-// How many digits of choice 1 are "valid if e < 8 and 8t + d < B": the lowest B − 8t of eight.
-fn second_digits(size: usize, e: usize, t: usize) -> usize
-    requires { ⌜ (size ≤ 65536) × (8 * t ≤ size) ⌝ }
-    ensures { λ r. ⌜ (r ≤ 8) × ((d : ℕ) → d < 8 → ltb e 8 && ltb (8 * t + d) size ≡ ltb d r) ⌝ }
+// The way back from a backyard bucket and a crumb that is valid there: "choice 0, digit d gives f = 8j + d", "choice 1 .. f = 64t + 8d + e".
+pub fn home_of(size: usize, from: Backyard, crumb: u32) -> Front
+    requires { ⌜ (size ≤ 65536) × (from .0 < backyards size) × (crumb < 16) × Homed size (from .0) crumb ⌝ }
+    ensures { λ r. ⌜ home size (from .0) crumb ≡ some (r .0) ⌝ }
 {
-    if 8 <= e {
-        return 0;
+    let digit = digit_of(crumb);
+    if choice_of(crumb) == 0 {
+        let j = from.0;
+        return Front(8 * j + digit);
     }
-    let left = size - 8 * t;
-    if 8 <= left { 8 } else { left }
+    let strides = strides_of(size, from);
+    Front(64 * strides.rest + 8 * digit + strides.whole)
 }

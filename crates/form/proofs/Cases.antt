@@ -1,6 +1,7 @@
--- Cases on either side, computed on images of B = 1: lengths, bad tails, the order of the numbers, and the tails that are written.
+-- Cases on either side, computed on images of B = 1: lengths, bad tails, the order of the numbers, the tails that are written, and front buckets
+-- whose two backyard buckets coincide.
 use mathlib.Core.Path.{_≡_, refl}
-use Prim.Native.Nat.{ℕ, _-_, _^_}
+use Prim.Native.Nat.{ℕ, _+_, _-_, _^_}
 use mathlib.Core.Bool.{cond}
 use mathlib.Core.List.{List, [], _∷_, _++_, map}
 use mathlib.Core.Option.{some, bind}
@@ -10,13 +11,13 @@ use Rattle.multiset.specs.Multisets.{added, removed, copies, slotOf, foundIn, l
 use Rattle.multiset.specs.Digits.{digits, value, spread, grouped, padded, joined}
 use Rattle.crumbmap.specs.Layouts.{Numbering, layout1, known, fronts, backyards}
 use Rattle.crumbmap.specs.Fingerprints.{frontOf, tagOf, miniOf, keyOf, fingerprint}
-use Rattle.crumbmap.specs.CrumbMap.{stride, firstBucket, firstCrumb, secondBucket, firstHome, home}
+use Rattle.crumbmap.specs.CrumbMap.{stride, firstBucket, firstCrumb, secondBucket, secondCrumb, coincide, firstHome, secondHome, home}
 use Rattle.buckets.specs.Words.{wordFrom, minisFrom}
 use Rattle.buckets.specs.Buckets.{given, valid, slotBytes, frontBytes, backBytes, slotKeys, frontMembers, backMembers}
 use Rattle.machine.specs.Results.{Result, accepted, refused, number}
 use Rattle.machine.specs.Images.{lengthOf, sizeOf, bucketAt, put, repeated, frontAt, backAt, putFront, putBack, emptyImage}
 use Rattle.machine.specs.Bags.{has}
-use Rattle.machine.specs.Machine.{Change, taker, takeIn, insertAt, deleteAt, askAt, countAt, membersAt}
+use Rattle.machine.specs.Machine.{Change, Asked, Counted, readsBehind, taker, takeIn, insertAt, deleteAt, askSecond, askAt, countAt, membersAt}
 use Rattle.machine.specs.Pages.{runFrom, pageFrom}
 use Rattle.machine.specs.Checks.{unsoundFront, unsoundBack, allInTurn, early, checkSized}
 use Rattle.machine.specs.Merges.{insertAll, mergeFrom}
@@ -40,13 +41,21 @@ empty = emptyImage layout1 1
 single : List ℕ
 single = putFront layout1 0 (0 ∷ []) empty
 
--- front bucket 0 and its one backyard bucket full of key 0, as bytes: 28 zero bits, then 36 ones, and 22, then 36
+-- a front bucket full of key 0, as bytes: 28 zero bits, then 36 ones
+heap : List ℕ
+heap = padded 64 (digits 256 8 (2 ^ 64 - 2 ^ 28))
+
+-- front bucket 0 and its one backyard bucket full of key 0: 22 zero bits, then 36 ones; the tags; crumb 8, choice 1 with digit 0, in each half byte
 crowded : List ℕ
-crowded = put 0 (padded 64 (digits 256 8 (2 ^ 64 - 2 ^ 28))) (put 8 (padded 64 (digits 256 8 (2 ^ 58 - 2 ^ 22))) empty)
+crowded = put 0 heap (put 8 (padded 64 (digits 256 8 (2 ^ 58 - 2 ^ 22) ++ (replicate {A = ℕ} 44 0 ++ replicate {A = ℕ} 11 136))) empty)
 
 -- a member behind a front bucket that has room
 hasty : List ℕ
-hasty = putBack layout1 1 0 (0 ∷ []) empty
+hasty = putBack layout1 1 0 (1 ∷ []) empty
+
+-- front bucket 1 full, b0 = 0 and b1 = 1, and behind it a member of its own with choice 0, or one of front bucket 0, b0 = b1 = 0, with choice 0
+beside : ℕ → List ℕ
+beside crumb = putBack layout1 1 0 (crumb ∷ []) (put 1 heap empty)
 
 -- a body with the number of a layout, a total and a change count behind it
 form : List ℕ → ℕ → ℕ → ℕ → List ℕ
@@ -79,6 +88,14 @@ changesIn (refused n i) = 1000
 imageIn : Result Change → Result (List ℕ)
 imageIn (accepted c) = accepted (c .image)
 imageIn (refused n i) = refused n i
+
+readsIn : Result Asked → ℕ
+readsIn (accepted a) = a .reads
+readsIn (refused n i) = 1000
+
+countIn : Result Counted → ℕ
+countIn (accepted c) = c .reads
+countIn (refused n i) = 1000
 
 -- ---- the table
 
@@ -181,8 +198,18 @@ table =
     ∷ (number (detachOf known 1 (form hasty 1 0 0) zeros), 8)
     ∷ (number (detachOf known 1 (form single 1 0 9) zeros), 12)
     ∷ (number (detachOf known 1 (form single 1 1 9) zeros), 0)
+    -- C-17: 2 reads behind front bucket 0, 3 behind front bucket 1; its choice 0 unsound, met for either, and that of front bucket 1 sound
+    ∷ (readsIn (askOf known (form crowded 1 50 0) 1), 2)
+    ∷ (countIn (countOf known (form crowded 1 50 0) 0), 2)
+    ∷ (readsIn (askOf known (form (beside 1) 1 29 0) (2 ^ 61 + 1)), 3)
+    ∷ (countIn (countOf known (form (beside 1) 1 29 0) (2 ^ 61)), 3)
+    ∷ (number (askOf known (form (beside 0) 1 29 0) (2 ^ 61 + 1)), 3)
+    ∷ (number (checkOf known (form (beside 0) 1 29 0)), 3)
+    ∷ (number (checkOf known (form (beside 1) 1 29 0)), 0)
+    ∷ (number (attachOf known 1 (beside 0) target), 3)
+    ∷ (number (attachOf known 1 (beside 1) target), 0)
     ∷ []
 
 pub cases : map (λ (row : ℕ × ℕ). row .0) table ≡ map (λ (row : ℕ × ℕ). row .1) table
-unfolding table zeros empty single crowded hasty form spoilt target larger two totalIn changesIn imageIn body rest tailIn tailBytes markOf slots members raised lowered headed opened changedBy checkedBy mergedBy unchanged freshOf insertOf deleteOf askOf countOf rowOf pageOf occupancyOf checkOf tailOf mergeSizedOf mergeOf attachOf detachOf M.insertOf M.deleteOf M.askOf M.countOf M.pageOf R.asksOf R.rowOf O.occupancyOf O.printFrom O.linesFrom O.lineAt O.line O.column O.aligned O.bar O.blankLine taker takeIn insertAt deleteAt askAt countAt membersAt insertAll mergeFrom runFrom pageFrom unsoundFront unsoundBack allInTurn early checkSized has lengthOf sizeOf bucketAt put repeated frontAt backAt putFront putBack emptyImage given valid slotBytes frontBytes backBytes slotKeys frontMembers backMembers wordFrom minisFrom stride firstBucket firstCrumb secondBucket firstHome home frontOf tagOf miniOf keyOf fingerprint fronts backyards digits value spread grouped padded joined added removed copies slotOf foundIn largest atLeast ascending allZero bind
+unfolding table zeros empty single heap crowded hasty beside form spoilt target larger two totalIn changesIn imageIn readsIn countIn body rest tailIn tailBytes markOf slots members raised lowered headed opened changedBy checkedBy mergedBy unchanged freshOf insertOf deleteOf askOf countOf rowOf pageOf occupancyOf checkOf tailOf mergeSizedOf mergeOf attachOf detachOf M.insertOf M.deleteOf M.askOf M.countOf M.pageOf R.asksOf R.rowOf O.occupancyOf O.printFrom O.linesFrom O.lineAt O.line O.column O.aligned O.bar O.blankLine readsBehind taker takeIn insertAt deleteAt askSecond askAt countAt membersAt insertAll mergeFrom runFrom pageFrom unsoundFront unsoundBack allInTurn early checkSized has lengthOf sizeOf bucketAt put repeated frontAt backAt putFront putBack emptyImage given valid slotBytes frontBytes backBytes slotKeys frontMembers backMembers wordFrom minisFrom stride firstBucket firstCrumb secondBucket secondCrumb coincide firstHome secondHome home frontOf tagOf miniOf keyOf fingerprint fronts backyards digits value spread grouped padded joined added removed copies slotOf foundIn largest atLeast ascending allZero bind
 cases = refl

@@ -20,10 +20,11 @@ use Rattle.crumbmap.specs.CrumbMap.{bucketOf, firstBucket, secondBucket, firstC
 use Rattle.crumbmap.proofs.CrumbMapLaws.{bucketOf-lt}
 use Rattle.machine.specs.Results.{Result, accepted, refused, andThen}
 use Rattle.machine.specs.Images.{frontAt, backAt, inFront, inBack}
-use Rattle.machine.specs.Machine.{Place, nowhere, front, first, second, counted, countAt, Asked, asked, denied, found, askAt}
+use Rattle.machine.specs.Machine.{Place, nowhere, front, first, second, counted, countAt, Asked, asked, denied, found, readsBehind, askSecond, askAt}
 use Rattle.machine.specs.Copies.{Short, Told}
 use Rattle.machine.proofs.Invariant.{Good, part, over, total}
 use Rattle.machine.proofs.OverflowLaws.{bucketOf-read}
+use Rattle.machine.proofs.ChoiceLaws.{reads-least}
 use Rattle.multiset.proofs.SumLaws.{sum-plus, sum-nought}
 
 -- how many members of front bucket f are smaller than x
@@ -62,16 +63,13 @@ module _ (L : Layout) (B f x : ℕ) (img : List ℕ) where
   unfolding askAt
   ask-unsound e = rw e
 
-  -- the search of b1, and that of b0 before it
-  unfoldable pub askSecond : Result Asked
-  askSecond = andThen (backAt L B (secondBucket B f) img) λ zs. found (foundIn (x * 16 + secondCrumb f) zs) (asked 3 second) (denied 3)
-
+  -- the search of b0, and what comes after it
   unfoldable pub askBehind : Result Asked
-  askBehind = andThen (backAt L B (firstBucket f) img) λ ys. found (foundIn (x * 16 + firstCrumb f) ys) (asked 2 first) askSecond
+  askBehind = andThen (backAt L B (firstBucket f) img) λ ys. found (foundIn (x * 16 + firstCrumb f) ys) (asked 2 first) (askSecond L B f x img)
 
   pub ask-behind : (xs : List ℕ) → frontAt L f img ≡ accepted xs → copies x xs ≡ 0 → length xs ≡ L .frontSlots → largest xs < x
       → askAt L B f x img ≡ askBehind
-  unfolding askAt askBehind askSecond
+  unfolding askAt askBehind
   ask-behind xs read none full past =
       rw (read, found-none x xs none, eq-eqb (length xs) (L .frontSlots) full, lt-ltb (largest xs) x past)
 
@@ -95,11 +93,11 @@ module _ (L : Layout) (B f x : ℕ) (img xs : List ℕ) (read : frontAt L f img 
       goes-on = ask-behind L B f x img xs read none full past ∙ rw (first-read, found-none _ _ none-first)
 
       pub ask-in-second : T (ascending zs) → 0 < copies (x * 16 + secondCrumb f) zs
-          → askAt L B f x img ≡ asked 3 second (record { slot = below (x * 16 + secondCrumb f) zs; copies = copies (x * 16 + secondCrumb f) zs })
+          → askAt L B f x img ≡ asked (readsBehind B f) second (record { slot = below (x * 16 + secondCrumb f) zs; copies = copies (x * 16 + secondCrumb f) zs })
       unfolding askSecond
       ask-in-second a c = goes-on ∙ rw (second-read, found-some _ _ a c) refl
 
-      pub ask-in-none : copies (x * 16 + secondCrumb f) zs ≡ 0 → askAt L B f x img ≡ denied 3
+      pub ask-in-none : copies (x * 16 + secondCrumb f) zs ≡ 0 → askAt L B f x img ≡ denied (readsBehind B f)
       unfolding askSecond
       ask-in-none c = goes-on ∙ rw (second-read, found-none _ _ c) refl
 
@@ -127,7 +125,7 @@ module _ (L : Layout) (B : ℕ) (img : List ℕ) (good : Good L B img) (f : ℕ)
 
       go : (a b : Bool) → eqb (length (inFront L f img)) (L .frontSlots) ≡ a → leb (largest (inFront L f img)) x ≡ b
           → (n : ℕ) × (countAt L B f x img ≡ accepted (record { reads = n; copies = total L B f x img }))
-      go true true e l = (3, rw (good .front f h, e, l, back-read true, back-read false) (gives 3 _ _ (omega arith)))
+      go true true e l = (readsBehind B f, rw (good .front f h, e, l, back-read true, back-read false) (gives (readsBehind B f) _ _ (omega arith)))
       go true false e l =
           let less : x < largest (inFront L f img) = leb-false _ _ l in
           (1, rw (good .front f h, e, l) (gives 1 _ _ (omega (arith, over-none x (λ a b. omega arith)))))
@@ -211,20 +209,20 @@ module _ (L : Layout) (B : ℕ) (img : List ℕ) (good : Good L B img) (f : ℕ)
           → (part L B false f x img ≡ 0) ⊎ (0 < part L B false f x img) → Tells L B f x img
       in-second z e l y (inr c) = (
         record {
-          reads = 3;
+          reads = readsBehind B f;
           place = second (below (x * 16 + secondCrumb f) (inBack L B (secondBucket B f) img));
           copies = copies (x * 16 + secondCrumb f) (inBack L B (secondBucket B f) img);
         },
         ask-in-second L B f x img xs (good .front f h) z e l _ (back-read true) y _ (back-read false) (order false) c,
         both-hold (somewhere _ refl) (omega (arith, c)),
-        both-hold (omega arith) (smaller-past x pos e l),
+        both-hold (omega (arith, reads-least B f)) (smaller-past x pos e l),
         told-some _ _ refl c (omega arith) (λ z. omega arith),
       )
       in-second z e l y (inl c) = (
-        record { reads = 3; place = nowhere; copies = 0 },
+        record { reads = readsBehind B f; place = nowhere; copies = 0 },
         ask-in-none L B f x img xs (good .front f h) z e l _ (back-read true) y _ (back-read false) c,
         both-fail (λ n. n refl) (λ p. omega (arith, z, y, c)),
-        both-hold (omega arith) (smaller-past x pos e l),
+        both-hold (omega (arith, reads-least B f)) (smaller-past x pos e l),
         told-none (omega (arith, z, y, c)),
       )
 

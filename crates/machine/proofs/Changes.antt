@@ -10,7 +10,7 @@ use lib.ListN.{length}
 use Rattle.multiset.specs.Multisets.{added, removed, copies, largest}
 use Rattle.multiset.proofs.MultisetLaws.{hit, hit-other, copies-added, copies-removed, hit-alike, equal-of-hit}
 use Rattle.crumbmap.specs.Layouts.{Layout, keys, fronts, backyards}
-use Rattle.crumbmap.specs.CrumbMap.{bucketOf, crumbOf}
+use Rattle.crumbmap.specs.CrumbMap.{bucketOf, crumbOf, allowed}
 use Rattle.crumbmap.proofs.CrumbMapLaws.{bucketOf-lt, crumbOf-lt, front-unique, choice-unique}
 use Rattle.buckets.specs.Buckets.{Fits64, FrontList, BackList}
 use Rattle.machine.specs.Results.{accepted}
@@ -19,7 +19,8 @@ use Rattle.machine.proofs.ImageLaws.{sizeOf-some, front-inside, back-in
 use Rattle.machine.proofs.BucketWrites.{length-putFront, frontAt-putFront, inFront-putFront, frontAt-putFront-other, inFront-putFront-other, backAt-putFront, inBack-putFront, length-putBack, backAt-putBack, inBack-putBack, backAt-putBack-other, inBack-putBack-other, frontAt-putBack, inFront-putBack}
 use Rattle.machine.proofs.Invariant.{part, over, over-choice, Good}
 use Rattle.machine.proofs.OverflowLaws.{bucketOf-list}
-use Rattle.machine.proofs.Members.{crumb-back, backList-added, backList-removed}
+use Rattle.machine.proofs.ChoiceLaws.{crumb-back}
+use Rattle.machine.proofs.Members.{backList-added, backList-removed}
 
 not-same : (t : Bool) → not t ≡ t → ⊥
 not-same true e = false≢true e
@@ -199,14 +200,14 @@ module _ (L : Layout) (fits : Fits64 L) (B f v : ℕ) (h : f < fronts B) (img : 
   held-turn y o = good .turn f y h (omega (arith, o, over-choice L B t f y img))
 
   -- v joins f's backyard bucket of choice t
-  pub back-joined : v < keys L → length ys < L .backSlots → length (inFront L f img) ≡ L .frontSlots → largest (inFront L f img) ≤ v
+  pub back-joined : allowed t B f ≡ true → v < keys L → length ys < L .backSlots → length (inFront L f img) ≡ L .frontSlots → largest (inFront L f img) ≤ v
       → Good L B (putBack L B (bucketOf t B f) (added member ys) img) × OneOver L B f v img (putBack L B (bucketOf t B f) (added member ys) img)
   unfolding part
-  back-joined k r full most = (w .good, record { views = w .views; here = here; elsewhere = w .elsewhere })
+  back-joined a k r full most = (w .good, record { views = w .views; here = here; elsewhere = w .elsewhere })
     where
       w : BackWritten L B f t (added member ys) img (putBack L B (bucketOf t B f) (added member ys) img)
       w = back-written L fits B f h img good t (added member ys)
-          (backList-added L B f v t ys (bucketOf-list L B f img good h t) h k r)
+          (backList-added L B f v t ys (bucketOf-list L B f img good h t) h a k r)
           (λ y n. omega (arith, copies-added y member ys, other-hit y n))
           (λ y o. elim (ℕ-discrete (copies (y * 16 + crumbOf t f) ys) 0) [
             | yes p ↦

@@ -23,6 +23,7 @@ use Rattle.machine.specs.Results.{Result, accepted, refused}
 use Rattle.machine.specs.Images.{sizeOf, bucketAt, frontAt, backAt, inFront, inBack}
 use Rattle.machine.specs.Checks.{unless, orLater, unsoundFront, unsoundBack, inTurn, homeInTurn, allInTurn, bucketInTurn, early, checkSized}
 use Rattle.machine.proofs.AcceptedLaws.{was-sound}
+use Rattle.machine.proofs.ChoiceLaws.{member-allowed}
 use Rattle.machine.proofs.ImageLaws.{inFront-read, inBack-read, sizeOf-some, front-inside, back-inside, length-bucketAt, below-bucket}
 use Rattle.machine.proofs.Invariant.{Good, part, over}
 
@@ -194,7 +195,8 @@ module _ (L : Layout) (fits : Fits64 L) (B : ℕ) (img : List ℕ) (bytes : (i :
       let mine = in-turn-passed L B img checked j (x * 16 + crumbOf t f) l c in
       let low : (x * 16 + crumbOf t f) % 16 ≡ crumbOf t f = omega (arith, crumbOf-lt t f) in
       let high : (x * 16 + crumbOf t f) / 16 ≡ x = omega (arith, crumbOf-lt t f) in
-      inTurn-full L B img x (inFront L f img) (rw (low, high, home-bucketOf t B f h, front-passed L B img checked f h) at mine)
+      let ours = member-allowed B f h t x (inBack L B j img) (back-list j l .crumbs) c in
+      inTurn-full L B img x (inFront L f img) (rw (low, high, home-bucketOf t B f h, ours, front-passed L B img checked f h) at mine)
 
   pub good-checked : Good L B img
   good-checked = record {

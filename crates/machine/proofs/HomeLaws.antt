@@ -44,6 +44,7 @@ module _ (L : Layout) (B : ℕ) (img : List ℕ) (checked : checkSized L B img �
         choice = b .0;
         crumb = b .2;
         bucket = b .1;
+        carried = b .3;
         members = inFront L f img;
         read = front-passed L B img checked f l;
         full = turn .0;

@@ -13,13 +13,14 @@ use Rattle.multiset.specs.Multisets.{added, removed, copies, largest}
 use Rattle.multiset.proofs.MultisetLaws.{hit, copies-added, copies-removed, length-added, hit-equal, equal-of-hit, hit-le-one}
 use Rattle.multiset.proofs.OrderLaws.{largest-added, largest-max, copies-largest, largest-le}
 use Rattle.crumbmap.specs.Layouts.{Layout, keys, fronts}
-use Rattle.crumbmap.specs.CrumbMap.{bucketOf, crumbOf}
+use Rattle.crumbmap.specs.CrumbMap.{bucketOf, crumbOf, allowed}
 use Rattle.buckets.specs.Buckets.{Fits64, FrontList}
 use Rattle.machine.specs.Results.{accepted, refused}
 use Rattle.machine.specs.Images.{frontAt, backAt, inFront, inBack, putFront, putBack}
 use Rattle.machine.specs.Machine.{takeIn, insertAt, full}
 use Rattle.machine.proofs.Invariant.{Good, OneMore}
 use Rattle.machine.proofs.OverflowLaws.{bucketOf-read, backyard-good, bucketOf-list}
+use Rattle.machine.proofs.ChoiceLaws.{chosen-allowed}
 use Rattle.machine.proofs.Members.{cond-choice, frontList-added}
 use Rattle.machine.proofs.StayLaws.{length-rest, top-range, rest-list}
 use Rattle.machine.proofs.Changes.{FrontWritten, OneOver, front-written, back-joined}
@@ -95,8 +96,8 @@ module _ (L : Layout) (fits : Fits64 L) (B f x : ℕ) (img : List ℕ) (good : G
   abbrev now : Bool → List ℕ
   now t = putBack L B (bucketOf t B f) (added (top * 16 + crumbOf t f) (ys t)) mid
 
-  spilled : (t : Bool) → length xs ≡ L .frontSlots → length (ys t) < L .backSlots → Good L B (now t) × OneMore L B f x img (now t)
-  spilled t s r = (
+  spilled : (t : Bool) → allowed t B f ≡ true → length xs ≡ L .frontSlots → length (ys t) < L .backSlots → Good L B (now t) × OneMore L B f x img (now t)
+  spilled t a s r = (
     o .0,
     record {
       here = λ y. omega (arith, ap (copies y) (o .1 .views f h ∙ w .here), o .1 .here y, copies-rest y, w .parts true f y, w .parts false f y);
@@ -109,7 +110,7 @@ module _ (L : Layout) (fits : Fits64 L) (B f x : ℕ) (img : List ℕ) (good : G
       w = front-written L fits B f h img good rest (rest-list L x xs list k) (λ y o. (omega (arith, length-rest x xs), omega (arith, rest-le, good .turn f y h o .1)))
 
       o : Good L B (now t) × OneOver L B f top mid (now t)
-      o = rw (w .backs (bucketOf t B f)) at (back-joined L fits B f top h mid (w .good) t (top-range L x xs list k)
+      o = rw (w .backs (bucketOf t B f)) at (back-joined L fits B f top h mid (w .good) t a (top-range L x xs list k)
           (rw (w .backs (bucketOf t B f)) r) (rw (w .here) (omega (arith, length-rest x xs))) (rw (w .here) (omega (arith, rest-le, top-max))))
 
   -- the front bucket has no slot left: the backyard takes the largest
@@ -121,7 +122,8 @@ module _ (L : Layout) (fits : Fits64 L) (B f x : ℕ) (img : List ℕ) (good : G
       stuck (insert-over s ∙ e)
       (rw (full-is, eq-eqb (length xs) (L .frontSlots) s, eq-eqb (length (ys true)) (L .backSlots) p, eq-eqb (length (ys false)) (L .backSlots) q))
   at-full s (takes t c r e) =
-      let o : Good L B (now t) × OneMore L B f x img (now t) = spilled t s (rw (cond-choice ys t) at r) in
+      let o : Good L B (now t) × OneMore L B f x img (now t) =
+      spilled t (chosen-allowed B f (λ (j : ℕ). length (inBack L B j img)) t c) s (rw (cond-choice ys t) at r) in
       took (1 + bucketOf t B f) (now t) (insert-over s ∙ rw (cond-choice ys t) at e)
       (rw (full-is, eq-eqb (length xs) (L .frontSlots) s) (room-chosen (L .backSlots) t (ys true) (ys false) r)) (o .0) (o .1)
 

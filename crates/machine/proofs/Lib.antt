@@ -7,6 +7,7 @@ pub mod ImageLaws
 pub mod BucketWrites
 pub mod Invariant
 pub mod OverflowLaws
+pub mod ChoiceLaws
 pub mod Members
 pub mod StayLaws
 pub mod Changes
@@ -22,5 +23,6 @@ pub mod HomeLaws
 pub mod MergeLaws
 pub mod RoomLaws
 pub mod RowLaws
+pub mod CoincideLaws
 pub mod OccupancyLaws
 pub mod LineCases

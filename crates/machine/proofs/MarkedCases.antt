@@ -6,7 +6,7 @@ use mathlib.Core.Option.{Option, none, some}
 use Rattle.multiset.specs.Multisets.{copies}
 use Rattle.crumbmap.specs.Layouts.{layout1, fronts}
 use Rattle.crumbmap.specs.Fingerprints.{frontOf, miniOf, tagOf, keyOf, fingerprint}
-use Rattle.crumbmap.specs.CrumbMap.{stride, firstBucket, firstCrumb, secondBucket, secondCrumb, firstHome, secondHome, home}
+use Rattle.crumbmap.specs.CrumbMap.{stride, firstBucket, firstCrumb, secondBucket, secondCrumb, coincide, firstHome, secondHome, home}
 use Rattle.buckets.specs.Words.{wordFrom}
 
 -- (f, m, r) of hash k
@@ -51,5 +51,5 @@ table =
     ∷ []
 
 pub marked-cases : map (λ (row : List ℕ × List ℕ). row .0) table ≡ map (λ (row : List ℕ × List ℕ). row .1) table
-unfolding table parts number mapped back word copies fronts frontOf miniOf tagOf keyOf fingerprint stride firstBucket firstCrumb secondBucket secondCrumb firstHome secondHome home wordFrom
+unfolding table parts number mapped back word copies fronts frontOf miniOf tagOf keyOf fingerprint stride firstBucket firstCrumb secondBucket secondCrumb coincide firstHome secondHome home wordFrom
 marked-cases = refl

@@ -12,10 +12,11 @@ use Rattle.multiset.specs.Multisets.{added, removed, copies}
 use Rattle.multiset.proofs.MultisetLaws.{length-added, length-removed, below-added, below-removed}
 use Rattle.multiset.proofs.OrderLaws.{ascending-added, ascending-removed}
 use Rattle.crumbmap.specs.Layouts.{Layout, keys, fronts}
-use Rattle.crumbmap.specs.CrumbMap.{firstBucket, secondBucket, home, bucketOf, crumbOf}
+use Rattle.crumbmap.specs.CrumbMap.{firstBucket, secondBucket, home, bucketOf, crumbOf, allowed}
 use Rattle.crumbmap.proofs.CrumbMapLaws.{crumbOf-lt, home-bucketOf}
 use Rattle.buckets.specs.Buckets.{isSome, valid, FrontList, BackList}
 use Rattle.machine.specs.Images.{inBack}
+use Rattle.machine.proofs.ChoiceLaws.{crumb-back}
 
 -- one of two lists, by the choice
 pub cond-choice : (held : Bool → List ℕ) (t : Bool) → cond t (held true) (held false) ≡ held t
@@ -25,10 +26,6 @@ cond-choice held false = refl
 pub inBack-choice : (L : Layout) (B f : ℕ) (img : List ℕ) (t : Bool)
     → cond t (inBack L B (firstBucket f) img) (inBack L B (secondBucket B f) img) ≡ inBack L B (bucketOf t B f) img
 inBack-choice L B f img = cond-choice (λ (t : Bool). inBack L B (bucketOf t B f) img)
-
--- the choice's crumb, read back from a member
-pub crumb-back : (t : Bool) (f v : ℕ) → (v * 16 + crumbOf t f) % 16 ≡ crumbOf t f
-crumb-back t f v = omega (arith, crumbOf-lt t f)
 
 module _ (B j : ℕ) where
   valid-cons : (y : ℕ) (ys : List ℕ) → T (isSome (home B j (y % 16))) → T (valid B j ys) → T (valid B j (y ∷ ys))
@@ -74,12 +71,13 @@ module _ (L : Layout) where
       frontList-added y (removed x xs) (frontList-removed x xs l c) k (omega (arith, length-removed x xs c, l .room))
 
   module _ (B f v : ℕ) (t : Bool) (ys : List ℕ) (l : BackList L B (bucketOf t B f) ys) where
-    pub backList-added : f < fronts B → v < keys L → length ys < L .backSlots → BackList L B (bucketOf t B f) (added (v * 16 + crumbOf t f) ys)
-    backList-added h k r = record {
+    pub backList-added : f < fronts B → allowed t B f ≡ true → v < keys L → length ys < L .backSlots
+        → BackList L B (bucketOf t B f) (added (v * 16 + crumbOf t f) ys)
+    backList-added h a k r = record {
       order = ascending-added (v * 16 + crumbOf t f) ys (l .order);
       range = below-added (keys L * 16) (v * 16 + crumbOf t f) ys (omega (arith, crumbOf-lt t f)) (l .range);
       room = omega (arith, length-added (v * 16 + crumbOf t f) ys);
-      crumbs = valid-added B (bucketOf t B f) (v * 16 + crumbOf t f) ys (rw (crumb-back t f v, home-bucketOf t B f h) tt) (l .crumbs);
+      crumbs = valid-added B (bucketOf t B f) (v * 16 + crumbOf t f) ys (rw (crumb-back t f v, home-bucketOf t B f h, a) tt) (l .crumbs);
     }
 
     pub backList-removed : 0 < copies (v * 16 + crumbOf t f) ys → BackList L B (bucketOf t B f) (removed (v * 16 + crumbOf t f) ys)

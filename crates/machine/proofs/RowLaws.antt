@@ -1,10 +1,11 @@
--- A row of asks, for any layout: the sums of groups (`apart`, `alike`, `least`, `unopened`), how an ask ends (`ask-ends`, `asked-few`, `ask-refused`),
+-- A row of asks, for any layout: the sums of groups (`apart`, `alike`, `least`, `unopened`), how an ask ends (`ask-ends`, `asked-most`, `asked-few`, `ask-refused`),
 -- how a row ends (`row-answered`, `asks-split`), and how large its results are (`row-total`, `row-refused`).
 use mathlib.Core.Path.{_≡_, refl, sym, _∙_}
 use Prim.Native.Nat.{ℕ, _+_, _*_, _^_, _≤_, _<_, max}
 use mathlib.Core.Bool.{Bool, true, false, cond, _&&_}
 use mathlib.Core.List.{List, [], _∷_, map}
 use mathlib.Core.Option.{Option, none, some}
+use native.Mathlib.Nat.{le-refl}
 use native.Mathlib.Omega.{arith}
 use lib.ListN.{length}
 use lib.Dec.{eqb, ltb}
@@ -12,17 +13,18 @@ use borrow.Author.Tests.{ltb-true, ltb-false, eq-eqb, ne-eqb}
 use Rattle.multiset.specs.Multisets.{Below, Found, foundIn, largest}
 use Rattle.crumbmap.specs.Layouts.{Layout, fronts, backyards}
 use Rattle.crumbmap.specs.Fingerprints.{frontOf, keyOf}
-use Rattle.crumbmap.specs.CrumbMap.{firstBucket, secondBucket, firstCrumb, secondCrumb}
+use Rattle.crumbmap.specs.CrumbMap.{firstBucket, secondBucket, firstCrumb, secondCrumb, coincide}
 use Rattle.crumbmap.proofs.CrumbMapLaws.{bucketOf-lt}
 use Rattle.crumbmap.proofs.FingerprintLaws.{frontOf-lt}
 use Rattle.buckets.specs.Buckets.{frontMembers, backMembers}
 use Rattle.machine.specs.Results.{Result, accepted, refused, andThen, orUnsound}
 use Rattle.machine.specs.Images.{sizeOf, bucketAt, frontAt, backAt}
-use Rattle.machine.specs.Machine.{Asked, found, askAt}
+use Rattle.machine.specs.Machine.{Asked, found, readsBehind, askSecond, askAt}
 use Rattle.machine.specs.Calls.{askOf}
 use Rattle.machine.specs.Rows.{Row, Group, descends, joined, groups, readsOf, asksOf, rowOf}
 use Rattle.machine.proofs.AcceptedLaws.{same-answer, never-refused}
 use Rattle.machine.proofs.ImageLaws.{sizeOf-some}
+use Rattle.machine.proofs.ChoiceLaws.{reads-least, reads-most, reads-same, reads-apart}
 
 -- ---- sums of groups
 
@@ -81,9 +83,9 @@ module _ {A : Type 0} (P : Result A → Type 0) where
   of-test true p q = p
   of-test false p q = q
 
--- an ask of front bucket f ends with one, two or three buckets read, of which R is then true, or refuses one that is unsound
+-- an ask of front bucket f ends with one bucket read or more, up to both behind it, of which R is then true, or refuses one that is unsound
 abbrev pub Ends : ℕ → ℕ → (ℕ → Type 0) → Result Asked → Type 0
-Ends B f R (accepted a) = R (a .reads) × (0 < a .reads) × (a .reads ≤ 3)
+Ends B f R (accepted a) = R (a .reads) × (0 < a .reads) × (a .reads ≤ readsBehind B f)
 Ends B f R (refused n i) = (n ≡ 3) × (f < fronts B → i < fronts B + backyards B)
 
 module _ (L : Layout) (B f x : ℕ) (img : List ℕ) (R : ℕ → Type 0) where
@@ -91,18 +93,19 @@ module _ (L : Layout) (B f x : ℕ) (img : List ℕ) (R : ℕ → Type 0) where
       → ((ys : List ℕ) → R 1 → backAt L B (firstBucket f) img ≡ accepted ys → R 2)
       → ((zs : List ℕ) → R 2 → backAt L B (secondBucket B f) img ≡ accepted zs → R 3)
       → Ends B f R (askAt L B f x img)
-  unfolding askAt frontAt backAt
+  unfolding askAt askSecond frontAt backAt
   ask-ends one two three =
       of-read P f (frontMembers L (bucketAt f img)) (refl, λ h. omega arith) λ xs e.
       let r1 = one xs e in
-      of-search P (foundIn x xs) (λ s e. (r1, omega arith, omega arith)) (of-test P (eqb (length xs) (L .frontSlots) && ltb (largest xs) x)
+      of-search P (foundIn x xs) (λ s e. (r1, omega arith, omega (arith, least))) (of-test P (eqb (length xs) (L .frontSlots) && ltb (largest xs) x)
       (of-read P (fronts B + firstBucket f) (back (firstBucket f)) (refl, λ h. omega (arith, bucketOf-lt true B f h)) λ ys e'.
       let r2 = two ys r1 e' in
-      of-search P (foundIn (x * 16 + firstCrumb f) ys) (λ s e. (r2, omega arith, omega arith))
+      of-search P (foundIn (x * 16 + firstCrumb f) ys) (λ s e. (r2, omega arith, least))
       (of-read P (fronts B + secondBucket B f) (back (secondBucket B f)) (refl, λ h. omega (arith, bucketOf-lt false B f h)) λ zs e''.
-      let r3 = three zs r2 e'' in
-      of-search P (foundIn (x * 16 + secondCrumb f) zs) (λ s e. (r3, omega arith, omega arith)) (r3, omega arith, omega arith)))
-      (r1, omega arith, omega arith))
+      let r3 = last r2 (three zs r2 e'') in
+      of-search P (foundIn (x * 16 + secondCrumb f) zs) (λ s e. (r3, omega (arith, least), le-refl (readsBehind B f)))
+      (r3, omega (arith, least), le-refl (readsBehind B f))))
+      (r1, omega arith, omega (arith, least)))
     where
       back : ℕ → Option (List ℕ)
       back j = backMembers L B j (bucketAt (fronts B + j) img)
@@ -110,13 +113,27 @@ module _ (L : Layout) (B f x : ℕ) (img : List ℕ) (R : ℕ → Type 0) where
       P : Result Asked → Type 0
       P = Ends B f R
 
--- an ask reads one bucket at least and three at most, and is refused with 3 and a table number only
+      least : 2 ≤ readsBehind B f
+      least = reads-least B f
+
+      -- b1 is read besides, or is the bucket that was
+      last : R 2 → R 3 → R (readsBehind B f)
+      last r2 r3 = go (coincide B f) refl
+        where
+          go : (b : Bool) → coincide B f ≡ b → R (readsBehind B f)
+          go true c = rw (reads-same B f c) r2
+          go false c = rw (reads-apart B f c) r3
+
+-- an ask reads one bucket at least, and three at most, two where b0 = b1, and is refused with 3 and a table number only
 module _ (L : Layout) (B f x : ℕ) (img : List ℕ) where
   ends : Ends B f (λ n. Unit {0}) (askAt L B f x img)
   ends = ask-ends L B f x img (λ n. Unit {0}) (λ xs e. tt) (λ ys r e. tt) (λ zs r e. tt)
 
+  pub asked-most : {a : Asked} → askAt L B f x img ≡ accepted a → a .reads ≤ readsBehind B f
+  asked-most e = (rw e at ends) .2
+
   pub asked-few : {a : Asked} → askAt L B f x img ≡ accepted a → a .reads ≤ 3
-  asked-few e = (rw e at ends) .2
+  asked-few e = omega (arith, asked-most e, reads-most B f)
 
   pub asked-some : {a : Asked} → askAt L B f x img ≡ accepted a → 0 < a .reads
   asked-some e = (rw e at ends) .1

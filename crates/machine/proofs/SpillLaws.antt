@@ -25,6 +25,7 @@ use Rattle.machine.proofs.ImageLaws.{inFront-read}
 use Rattle.machine.proofs.BucketWrites.{length-putFront, frontAt-putFront, backAt-putFront, frontAt-putBack, putFront-put, putFront-putBack}
 use Rattle.machine.proofs.Invariant.{Good}
 use Rattle.machine.proofs.OverflowLaws.{bucketOf-read, backyard-good, bucketOf-list}
+use Rattle.machine.proofs.ChoiceLaws.{chosen-allowed}
 use Rattle.machine.proofs.Members.{cond-choice, frontList-added, backList-added}
 use Rattle.machine.proofs.Changes.{good-front-inside, good-back-inside}
 use Rattle.machine.proofs.TakeLaws.{TakesIn, refuses, takes, takeIn-full, takeIn-on, takeIn-cases, backyard-read, pushAt-read, insertAt-room, insertAt-over}
@@ -135,7 +136,8 @@ module _ (L : Layout) (fits : Fits64 L) (B f : ℕ) (h : f < fronts B) where
 
           behind-list : BackList L B (bucketOf t B f) behind
           behind-list =
-              backList-added L B f most t (ys t) (bucketOf-list L B f img good h t) h (top-range L x ws list k) (rw (cond-choice ys t) at r)
+              backList-added L B f most t (ys t) (bucketOf-list L B f img good h t) h
+              (chosen-allowed B f (λ (j : ℕ). length (inBack L B j img)) t e) (top-range L x ws list k) (rw (cond-choice ys t) at r)
 
           taken : (old : List ℕ) → takeIn L B f most (ys true, ys false) old ≡ changed (1 + bucketOf t B f) (putBack L B (bucketOf t B f) behind old)
           taken old = rw (cond-choice ys t) at (takeIn-on L B f most (ys true) (ys false) old t e r)

@@ -2,13 +2,13 @@
 -- its inverse alone", and "each backyard member's front bucket holds 28, none larger than that member".
 use mathlib.Core.Path.{_≡_}
 use Prim.Native.Nat.{ℕ, _/_, _%_, _≤_, _<_}
-use mathlib.Core.Bool.{Bool}
+use mathlib.Core.Bool.{Bool, true}
 use mathlib.Core.List.{List}
 use mathlib.Core.Option.{some}
 use lib.ListN.{length}
 use Rattle.multiset.specs.Multisets.{copies}
 use Rattle.crumbmap.specs.Layouts.{Layout, fronts, backyards}
-use Rattle.crumbmap.specs.CrumbMap.{home, bucketOf, crumbOf}
+use Rattle.crumbmap.specs.CrumbMap.{home, bucketOf, crumbOf, allowed}
 use Rattle.machine.specs.Results.{accepted}
 use Rattle.machine.specs.Images.{frontAt, backAt}
 
@@ -22,6 +22,8 @@ module _ (L : Layout) (B : ℕ) (img : List ℕ) where
     pub choice : Bool
     pub crumb : crumbOf choice front ≡ y % 16
     pub bucket : bucketOf choice B front ≡ j
+    -- where the two are one, "such a member now always carries choice 1" (C-17)
+    pub carried : allowed choice B front ≡ true
     -- and which "holds 28, none larger than that member"
     pub members : List ℕ
     pub read : frontAt L front img ≡ accepted members

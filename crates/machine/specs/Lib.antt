@@ -4,6 +4,7 @@ pub mod Images
 pub mod Bags
 pub mod Machine
 pub mod Copies
+pub mod Once
 pub mod Steps
 pub mod Pages
 pub mod Checks

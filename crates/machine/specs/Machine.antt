@@ -8,7 +8,7 @@ use lib.ListN.{length}
 use lib.Dec.{leb, ltb, eqb}
 use Rattle.multiset.specs.Multisets.{added, removed, copies, Found, foundIn, largest}
 use Rattle.crumbmap.specs.Layouts.{Layout}
-use Rattle.crumbmap.specs.CrumbMap.{firstBucket, secondBucket, firstCrumb, secondCrumb, bucketOf, crumbOf}
+use Rattle.crumbmap.specs.CrumbMap.{firstBucket, secondBucket, firstCrumb, secondCrumb, bucketOf, crumbOf, coincide}
 use Rattle.buckets.specs.Buckets.{carrying}
 use Rattle.machine.specs.Results.{Result, accepted, refused, andThen, orRefused}
 use Rattle.machine.specs.Images.{frontAt, backAt, inBack, putFront, putBack}
@@ -61,6 +61,11 @@ occupancy (refused n i) = 0
 -- which backyard bucket takes an overflow, by n0 and n1: "If both hold 22: full. Else .. First(f) if n0 < n1, else .. Second(f)"
 unfoldable pub taker : Layout → ℕ → ℕ → Option Bool
 taker L n0 n1 = cond (eqb n0 (L .backSlots) && eqb n1 (L .backSlots)) none (some (ltb n0 n1))
+
+-- how many buckets are read by who looks into both bags behind front bucket f: where b0 = b1, "an ask that would read this bucket a second time
+-- no longer does: it counts at most 2, a count 2 likewise" (C-17)
+unfoldable pub readsBehind : ℕ → ℕ → ℕ
+readsBehind B f = cond (coincide B f) 2 3
 
 module _ (L : Layout) (B f : ℕ) where
   -- "b0 and b1 are read"
@@ -120,6 +125,12 @@ module _ (L : Layout) (B f : ℕ) where
       (andThen (backyard img) λ b. cond (has x (overflow b)) (takeOut x b img) (refused 5 0))
       (refused 5 0))
 
+  -- an ask that comes to Second(f), the last bag
+  unfoldable pub askSecond : ℕ → List ℕ → Result Asked
+  askSecond x img =
+      andThen (backAt L B (secondBucket B f) img) λ zs.
+      found (foundIn (x * 16 + secondCrumb f) zs) (asked (readsBehind B f) second) (denied (readsBehind B f))
+
   -- "reads the front bucket; if g is not there, and Front(f) holds 28 and g exceeds its largest, b0, then, if not found, b1"
   unfoldable pub askAt : ℕ → List ℕ → Result Asked
   askAt x img =
@@ -127,18 +138,17 @@ module _ (L : Layout) (B f : ℕ) where
       found (foundIn x xs) (asked 1 front)
       (cond (eqb (length xs) (L .frontSlots) && ltb (largest xs) x)
       (andThen (backAt L B (firstBucket f) img) λ ys.
-      found (foundIn (x * 16 + firstCrumb f) ys) (asked 2 first)
-      (andThen (backAt L B (secondBucket B f) img) λ zs.
-      found (foundIn (x * 16 + secondCrumb f) zs) (asked 3 second) (denied 3)))
+      found (foundIn (x * 16 + firstCrumb f) ys) (asked 2 first) (askSecond x img))
       (denied 1))
 
-  -- "those in Front(f), 1 read; if Front(f) holds 28 and g is not below its largest, those in First(f) and Second(f) too, 3 reads"
+  -- "those in Front(f), 1 read; if Front(f) holds 28 and g is not below its largest, those in First(f) and Second(f) too, 3 reads";
+  -- 2 where b0 = b1
   unfoldable pub countAt : ℕ → List ℕ → Result Counted
   countAt x img =
       andThen (frontAt L f img) λ xs.
       cond (eqb (length xs) (L .frontSlots) && leb (largest xs) x)
       (andThen (backyard img) λ b.
-      counted 3 (copies x xs + copies (x * 16 + firstCrumb f) (b .0) + copies (x * 16 + secondCrumb f) (b .1)))
+      counted (readsBehind B f) (copies x xs + copies (x * 16 + firstCrumb f) (b .0) + copies (x * 16 + secondCrumb f) (b .1)))
       (counted 1 (copies x xs))
 
   -- the members of f, ascending: "b0 and b1 are read where Front holds 28; elsewhere the members are those of Front alone"

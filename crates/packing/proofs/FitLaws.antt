@@ -21,7 +21,7 @@ use Rattle.buckets.specs.Buckets.{carrying, frontMembers, backMembers}
 use Rattle.machine.specs.Results.{Result, accepted, refused, andThen, orUnsound, orRefused}
 use Rattle.machine.specs.Images.{sized, sizeOf, frontAt, backAt, putBack, bucketAt}
 use Rattle.machine.specs.Bags.{has, fromFirst}
-use Rattle.machine.specs.Machine.{Change, Place, front, first, second, Asked, changed, asked, counted, backyard, overflow, taker, takeIn, insertAt, takeOut, refill, deleteAt, askAt, countAt, membersAt}
+use Rattle.machine.specs.Machine.{Change, Place, front, first, second, Asked, changed, asked, counted, backyard, overflow, taker, takeIn, insertAt, takeOut, refill, deleteAt, readsBehind, askSecond, askAt, countAt, membersAt}
 use Rattle.machine.specs.Pages.{Run, runFrom, pageFrom}
 use Rattle.machine.specs.Checks.{orLater, unsoundFront, unsoundBack, bucketInTurn, early, checkSized}
 use Rattle.machine.specs.Merges.{insertAll, mergeFrom}
@@ -31,6 +31,7 @@ use Rattle.machine.specs.Rows.{Row, descends}
 use Rattle.machine.specs.OccupancyPages as O
 use Rattle.machine.specs.OccupancyPages.{pageLines, pageBytes, blankLine, lineAt, linesFrom, printFrom}
 use Rattle.machine.proofs.ImageLaws.{sizeOf-some}
+use Rattle.machine.proofs.ChoiceLaws.{reads-most}
 use Rattle.machine.proofs.OccupancyLaws.{line-members}
 use Rattle.machine.proofs.RowLaws.{of-search, row-total, row-refused}
 use Rattle.machine.proofs.RoomLaws.{frontAt-room, backAt-room, backyard-room, run-count, found-room}
@@ -145,7 +146,7 @@ module _ (B f : ℕ) (img : List ℕ) (l : B ≤ 65536) (h : f < fronts B) where
       (λ _. bar 5 0 (omega arith) (omega arith))))
 
   askAt-fits : (x : ℕ) → Within askWord cap (askAt layout1 B f x img)
-  unfolding askAt
+  unfolding askAt askSecond
   askAt-fits x =
       within-then (frontAt layout1 f img) _ frontAt-sound (λ xs e.
       of-search (Within askWord cap) (foundIn x xs) (λ s d. found-fits 1 x xs front s d (omega (arith, frontAt-room layout1 f img xs e)) (omega arith))
@@ -155,8 +156,9 @@ module _ (B f : ℕ) (img : List ℕ) (l : B ≤ 65536) (h : f < fronts B) where
       (λ s g. found-fits 2 (x * 16 + firstCrumb f) ys first s g (omega (arith, backAt-room layout1 B (firstBucket f) img ys d)) (omega arith))
       (within-then (backAt layout1 B (secondBucket B f) img) _ (backAt-sound (secondBucket B f) (bucketOf-lt false B f h)) (λ zs g.
       of-search (Within askWord cap) (foundIn (x * 16 + secondCrumb f) zs)
-      (λ s k. found-fits 3 (x * 16 + secondCrumb f) zs second s k (omega (arith, backAt-room layout1 B (secondBucket B f) img zs g)) (omega arith))
-      (asked-fits _ (omega arith))))))
+      (λ s k. found-fits (readsBehind B f) (x * 16 + secondCrumb f) zs second s k (omega (arith, backAt-room layout1 B (secondBucket B f) img zs g))
+      (omega (arith, reads-most B f)))
+      (asked-fits _ (omega (arith, reads-most B f)))))))
       (λ _. asked-fits _ (omega arith))))
 
   countAt-fits : (x : ℕ) → Within countWord cap (countAt layout1 B f x img)
@@ -166,7 +168,7 @@ module _ (B f : ℕ) (img : List ℕ) (l : B ≤ 65536) (h : f < fronts B) where
       within-cond (eqb (length xs) (layout1 .frontSlots) && leb (largest xs) x) _ _
       (λ _. within-then (backyard layout1 B f img) _ backyard-sound (λ b g.
       let r = backyard-room layout1 B f img b g in
-      counted-fits 3 (copies x xs + copies (x * 16 + firstCrumb f) (b .0) + copies (x * 16 + secondCrumb f) (b .1))
+      counted-fits (readsBehind B f) (copies x xs + copies (x * 16 + firstCrumb f) (b .0) + copies (x * 16 + secondCrumb f) (b .1))
       (omega (
         arith,
         copies-le-length x xs,
@@ -175,6 +177,7 @@ module _ (B f : ℕ) (img : List ℕ) (l : B ≤ 65536) (h : f < fronts B) where
         r .0,
         copies-le-length (x * 16 + secondCrumb f) (b .1),
         r .1,
+        reads-most B f,
       ))))
       (λ _. counted-fits 1 (copies x xs) (omega (arith, copies-le-length x xs, frontAt-room layout1 f img xs e))))
 

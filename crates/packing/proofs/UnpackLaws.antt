@@ -14,9 +14,10 @@ use Rattle.crumbmap.specs.CrumbMap.{firstBucket, secondBucket, firstCrumb, seco
 use Rattle.buckets.specs.Buckets.{frontMembers, backMembers}
 use Rattle.machine.specs.Results.{Result, accepted, refused, andThen, orRefused}
 use Rattle.machine.specs.Images.{sizeOf, bucketAt, frontAt, backAt}
-use Rattle.machine.specs.Machine.{Place, nowhere, front, first, second, Asked, askAt}
+use Rattle.machine.specs.Machine.{Place, nowhere, front, first, second, Asked, readsBehind, askSecond, askAt}
 use Rattle.machine.specs.Calls as M
 use Rattle.machine.proofs.AcceptedLaws.{andThen-accepted}
+use Rattle.machine.proofs.ChoiceLaws.{reads-most}
 use Rattle.machine.proofs.RoomLaws.{frontAt-room, backAt-room, found-room}
 use Rattle.machine.proofs.RowLaws.{of-read, of-search, of-test}
 use Rattle.form.specs.Tails.{body, opened}
@@ -31,7 +32,7 @@ Small (accepted a) = (a .reads < 16) × (slotNumber (a .place) < 256)
 Small (refused n i) = Unit {0}
 
 askAt-small : (B f x : ℕ) (img : List ℕ) → Small (askAt layout1 B f x img)
-unfolding askAt frontAt backAt
+unfolding askAt askSecond frontAt backAt
 askAt-small B f x img =
     of-read Small f (frontMembers layout1 (bucketAt f img)) tt λ xs e.
     of-search Small (foundIn x xs) (λ s d. (omega arith, omega (arith, found-room x xs s d .0, frontAt-room layout1 f img xs e)))
@@ -41,12 +42,15 @@ askAt-small B f x img =
     (λ s d. (omega arith, omega (arith, found-room (x * 16 + firstCrumb f) ys s d .0, backAt-room layout1 B (firstBucket f) img ys e)))
     (of-read Small (fronts B + secondBucket B f) (back (secondBucket B f)) tt λ zs e.
     of-search Small (foundIn (x * 16 + secondCrumb f) zs)
-    (λ s d. (omega arith, omega (arith, found-room (x * 16 + secondCrumb f) zs s d .0, backAt-room layout1 B (secondBucket B f) img zs e)))
-    (omega arith, omega arith)))
+    (λ s d. (few, omega (arith, found-room (x * 16 + secondCrumb f) zs s d .0, backAt-room layout1 B (secondBucket B f) img zs e)))
+    (few, omega arith)))
     (omega arith, omega arith))
   where
     back : ℕ → Option (List ℕ)
     back j = backMembers layout1 B j (bucketAt (fronts B + j) img)
+
+    few : readsBehind B f < 16
+    few = omega (arith, reads-most B f)
 
 place-word : (p : Place) → (placeWord p ≡ 16 * placeNumber p + 256 * slotNumber p) × (placeNumber p ≤ 3)
 place-word nowhere = (refl, omega arith)

@@ -1,17 +1,14 @@
 -- The map as the code's answers give it.
 use mathlib.Core.Path.{_≡_}
-use Prim.Native.Nat.{ℕ, _+_, _*_, _<_, _≤_}
-use mathlib.Core.Bool.{Bool, true, false, cond}
-use mathlib.Core.Option.{Option, none, some}
-use lib.Dec.{ltb}
+use Prim.Native.Nat.{ℕ, _+_, _*_, _/_, _%_, _<_, _≤_}
+use mathlib.Core.Bool.{Bool, true, false}
+use mathlib.Core.Option.{some}
 use Rattle.crumbmap.specs.Layouts.{backyards}
-use Rattle.crumbmap.specs.CrumbMap.{bucketOf, crumbOf}
+use Rattle.crumbmap.specs.CrumbMap.{stride, bucketOf, crumbOf, home}
 use Rattle.crumbmap.specs.declared.Overflow.{Overflow}
 use Rattle.crumbmap.specs.declared.Ways.{Ways}
 use Rattle.crumbmap.specs.declared.Split.{Split}
-use Rattle.crumbmap.specs.declared.Homes.{Homes}
-use Rattle.crumbmap.specs.declared.Home.{Home}
-use Rattle.crumbmap.specs.declared.Home.the-variants.{At, Invalid}
+use Rattle.crumbmap.specs.declared.Strides.{Strides}
 
 -- the backyard bucket and the crumb of a choice for front bucket f, both in range
 pub record Leads (t : Bool) (B f : ℕ) (r : Overflow) : Type 0 where
@@ -31,16 +28,13 @@ pub record Splits (c : ℕ) (r : Split) : Type 0 where
   pub choice : r .0 < 2
   pub digit : r .1 < 8
 
--- the front bucket of the way back
-abbrev pub homeOf : Option ℕ → Home
-homeOf none = Invalid
-homeOf (some f) = At (record { 0 = f })
+-- "e = floor(j / K), t = j mod K", in range
+pub record Strided (B j : ℕ) (r : Strides) : Type 0 where
+  pub whole : r .whole ≡ j / stride B
+  pub rest : r .rest ≡ j % stride B
+  pub few : r .whole ≤ j
+  pub short : 8 * r .rest ≤ B
 
--- the front bucket of digit d, none where d is not valid
-abbrev pub homeIn : Homes → ℕ → Option ℕ
-homeIn r d = cond (ltb d (r .digits)) (some (r .start + r .step * d)) none
-
--- the way back by one choice, for the digits 0 to 7
-pub record LeadsBack (homes : ℕ → Option ℕ) (r : Homes) : Type 0 where
-  pub few : r .digits ≤ 8
-  pub leads : (d : ℕ) → d < 8 → homes d ≡ homeIn r d
+-- crumb c is valid in backyard bucket j
+abbrev pub Homed : ℕ → ℕ → ℕ → Type 0
+Homed B j c = (f : ℕ) × (home B j c ≡ some f)

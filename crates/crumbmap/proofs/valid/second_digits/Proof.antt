@@ -7,8 +7,8 @@ use mathlib.Core.Bool.{Bool, true, false}
 use lib.Dec.{ltb}
 use borrow.Author.Needs.{needs}
 use borrow.Author.Tests.{lt-ltb, le-ltb, ltb-true, ltb-false}
-use Rattle.crumbmap.proofs.map.second_digits.Statement.{statement}
-use Rattle.crumbmap.proofs.map.second_digits.Tie as tie
+use Rattle.crumbmap.proofs.valid.second_digits.Statement.{statement}
+use Rattle.crumbmap.proofs.valid.second_digits.Tie as tie
 
 returns : tie.Need-returns
 returns c = (zero-le, λ d l. rw (le-ltb _ 8 (c .if1 .taken), le-ltb d 0 zero-le))
@@ -17,9 +17,9 @@ returns-2 : tie.Need-returns-2
 returns-2 c = (
   le-refl 8,
   λ d l.
-      let a = c .before .before .args in
-      let inside : 8 * a .t + d < a .size = omega arith in
-      rw (lt-ltb _ 8 (c .before .if1 .left), lt-ltb _ _ inside, lt-ltb d 8 l),
+      let a = c .before .before .before .before .args in
+      let inside : 8 * a .strides .rest + d < a .size = omega arith in
+      rw (lt-ltb _ 8 (c .before .before .if1 .left), lt-ltb _ _ inside, lt-ltb d 8 l),
 )
 
 -- a digit is among the lowest B − 8t exactly where it is valid
@@ -34,8 +34,8 @@ returns-3 : tie.Need-returns-3
 returns-3 c = (
   omega arith,
   λ d l.
-      let a = c .before .before .args in
-      rw (lt-ltb _ 8 (c .before .if1 .left)) (same-test (a .size) (a .t) d),
+      let a = c .before .before .before .before .args in
+      rw (lt-ltb _ 8 (c .before .before .if1 .left)) (same-test (a .size) (a .strides .rest) d),
 )
 
 pub second-digits-spec : {M : Type 1} → statement M

@@ -1,0 +1,112 @@
+-- Which choice a member behind a front bucket carries: the one that an overflow takes is allowed (`chosen-allowed`), and so is that of every member
+-- of a sound bucket (`member-allowed`). Where b0 = b1 none carries choice 0: `first-bare`, `first-none`.
+use mathlib.Core.Path.{_≡_, refl, sym, ap, _∙_}
+use Prim.Native.Nat.{ℕ, _+_, _*_, _%_, _≤_, _<_}
+use mathlib.Core.Logic.{_⊎_, inl, inr}
+use mathlib.Core.Bool.{Bool, true, false, cond, not, false≢true}
+use mathlib.Core.List.{List, [], _∷_}
+use mathlib.Core.Option.{none, some}
+use native.Mathlib.Nat.{eq-zero-or-pos}
+use native.Mathlib.Omega.{arith}
+use native.Mathlib.Decide.{ℕ-discrete}
+use lib.ListN.{length}
+use lib.Dec.{T, ltb}
+use mir.Facts.{and-yes}
+use borrow.Author.Tests.{ltb-true, eqb-true}
+use Rattle.multiset.specs.Multisets.{copies, foundIn}
+use Rattle.multiset.proofs.MultisetLaws.{hit-other, copies-cons}
+use Rattle.multiset.proofs.RankLaws.{found-none}
+use Rattle.crumbmap.specs.Layouts.{Layout, fronts}
+use Rattle.crumbmap.specs.CrumbMap.{firstBucket, secondBucket, firstCrumb, bucketOf, crumbOf, coincide, allowed, home}
+use Rattle.crumbmap.proofs.CrumbMapLaws.{home-bucketOf, crumbOf-lt}
+use Rattle.buckets.specs.Buckets.{isSome, valid, backMembers}
+use Rattle.buckets.proofs.BucketLaws.{read-back}
+use Rattle.machine.specs.Results.{Result, accepted}
+use Rattle.machine.specs.Images.{bucketAt, backAt}
+use Rattle.machine.specs.Machine.{readsBehind}
+use Rattle.machine.proofs.AcceptedLaws.{was-sound}
+
+-- ---- one bucket, where b0 = b1
+
+module _ (B f : ℕ) where
+  pub same-bucket : coincide B f ≡ true → firstBucket f ≡ secondBucket B f
+  unfolding coincide
+  same-bucket c = eqb-true (firstBucket f) (secondBucket B f) c
+
+  pub reads-least : 2 ≤ readsBehind B f
+  unfolding readsBehind
+  reads-least = go (coincide B f)
+    where
+      go : (b : Bool) → 2 ≤ cond b 2 3
+      go true = omega arith
+      go false = omega arith
+
+  pub reads-most : readsBehind B f ≤ 3
+  unfolding readsBehind
+  reads-most = go (coincide B f)
+    where
+      go : (b : Bool) → cond b 2 3 ≤ 3
+      go true = omega arith
+      go false = omega arith
+
+  pub reads-same : coincide B f ≡ true → readsBehind B f ≡ 2
+  unfolding readsBehind
+  reads-same c = rw c
+
+  pub reads-apart : coincide B f ≡ false → readsBehind B f ≡ 3
+  unfolding readsBehind
+  reads-apart c = rw c
+
+-- ---- the choice that takes an overflow: a tie takes Second, and one bucket ties with itself
+
+pub chosen-allowed : (B f : ℕ) (held : ℕ → ℕ) (t : Bool) → ltb (held (firstBucket f)) (held (secondBucket B f)) ≡ t → allowed t B f ≡ true
+chosen-allowed B f held false e = refl
+chosen-allowed B f held true e = go (coincide B f) refl
+  where
+    go : (b : Bool) → coincide B f ≡ b → not b ≡ true
+    go true c = absurd (omega (arith, ap held (same-bucket B f c), ltb-true (held (firstBucket f)) (held (secondBucket B f)) e))
+    go false c = refl
+
+-- ---- the choice of a member of a sound bucket
+
+pub valid-member : (B j y : ℕ) (ys : List ℕ) → T (valid B j ys) → 0 < copies y ys → T (isSome (home B j (y % 16)))
+unfolding valid copies
+valid-member B j y [] v c = absurd (omega arith)
+valid-member B j y (z ∷ zs) v c =
+    let p = and-yes (isSome (home B j (z % 16))) (valid B j zs) v in
+    elim (ℕ-discrete y z) [
+      | yes q ↦ rw q (p .0)
+      | no n ↦ valid-member B j y zs (p .1) (omega (arith, copies-cons y z zs, hit-other y z n))
+    ]
+
+-- the choice's crumb, read back from a member
+pub crumb-back : (t : Bool) (f v : ℕ) → (v * 16 + crumbOf t f) % 16 ≡ crumbOf t f
+crumb-back t f v = omega (arith, crumbOf-lt t f)
+
+some-allowed : (b : Bool) (f : ℕ) → T (isSome (cond b (some f) none)) → b ≡ true
+some-allowed true f s = refl
+some-allowed false f s = absurd s
+
+module _ (B f : ℕ) (h : f < fronts B) where
+  pub member-allowed : (t : Bool) (v : ℕ) (ys : List ℕ) → T (valid B (bucketOf t B f) ys) → 0 < copies (v * 16 + crumbOf t f) ys → allowed t B f ≡ true
+  member-allowed t v ys l c =
+      some-allowed (allowed t B f) f
+      (rw (crumb-back t f v, home-bucketOf t B f h) at (valid-member B (bucketOf t B f) (v * 16 + crumbOf t f) ys l c))
+
+  -- First(f) has none
+  pub first-bare : coincide B f ≡ true → (v : ℕ) (ys : List ℕ) → T (valid B (firstBucket f) ys) → copies (v * 16 + firstCrumb f) ys ≡ 0
+  first-bare c v ys l = go (eq-zero-or-pos (copies (v * 16 + firstCrumb f) ys))
+    where
+      go : (copies (v * 16 + firstCrumb f) ys ≡ 0) ⊎ (0 < copies (v * 16 + firstCrumb f) ys) → copies (v * 16 + firstCrumb f) ys ≡ 0
+      go (inl e) = e
+      go (inr p) = let q = rw c at (member-allowed true v ys l p) in absurd (false≢true q)
+
+  -- in any image
+  pub first-none : (L : Layout) (img : List ℕ) → coincide B f ≡ true → (v : ℕ) (ys : List ℕ) → backAt L B (firstBucket f) img ≡ accepted ys
+      → foundIn (v * 16 + firstCrumb f) ys ≡ none
+  unfolding backAt
+  first-none L img c v ys e =
+      let j = firstBucket f in
+      let b = bucketAt (fronts B + j) img in
+      found-none (v * 16 + firstCrumb f) ys
+      (first-bare c v ys (read-back L B j b ys (was-sound (fronts B + j) (backMembers L B j b) ys e) .crumbs))

@@ -1,0 +1,81 @@
+-- Front buckets whose two backyard buckets coincide, b0 = b1. In any image an ask there has at most 2 reads and never ends in First, and a count has at
+-- most 2 reads (`ask-once`, `count-once`); in a good one no member stands in First (`none-first`).
+use mathlib.Core.Path.{_≡_, refl, ap}
+use Prim.Native.Nat.{ℕ, _+_, _*_, _≤_, _<_}
+use mathlib.Core.Bool.{Bool, true, false, cond, _&&_}
+use mathlib.Core.List.{List}
+use mathlib.Core.Option.{Option, none, some}
+use native.Mathlib.Omega.{arith}
+use lib.ListN.{length}
+use lib.Dec.{eqb, ltb, leb}
+use Rattle.multiset.specs.Multisets.{copies, Found, foundIn, largest}
+use Rattle.crumbmap.specs.Layouts.{Layout, fronts}
+use Rattle.crumbmap.specs.CrumbMap.{firstBucket, secondBucket, firstCrumb, secondCrumb, coincide}
+use Rattle.buckets.specs.Buckets.{frontMembers, backMembers}
+use Rattle.machine.specs.Results.{Result, accepted, refused, andThen}
+use Rattle.machine.specs.Images.{bucketAt, frontAt, backAt, inBack}
+use Rattle.machine.specs.Machine.{Place, nowhere, front, first, second, Asked, Counted, counted, readsBehind, backyard, askSecond, askAt, countAt}
+use Rattle.machine.specs.Once.{AskedOnce}
+use Rattle.machine.proofs.AcceptedLaws.{same-answer, andThen-accepted}
+use Rattle.machine.proofs.Invariant.{Good, part}
+use Rattle.machine.proofs.OverflowLaws.{bucketOf-list}
+use Rattle.machine.proofs.ChoiceLaws.{reads-same, first-bare, first-none}
+use Rattle.machine.proofs.RowLaws.{of-read, of-search, of-test}
+
+-- a place other than first
+abbrev isFirst : Place → ℕ
+isFirst nowhere = 0
+isFirst (front i) = 0
+isFirst (first i) = 1
+isFirst (second i) = 0
+
+once-at : (a : Asked) → a .reads ≤ 2 → isFirst (a .place) ≡ 0 → AskedOnce a
+once-at a few other = record { few = few; not-first = λ i e. omega (arith, other, ap isFirst e) }
+
+module _ (L : Layout) (B f x : ℕ) (img : List ℕ) (c : coincide B f ≡ true) where
+  -- what is true of an accepted ask
+  abbrev Once : Result Asked → Type 0
+  Once (accepted a) = AskedOnce a
+  Once (refused n i) = Unit {0}
+
+  once : f < fronts B → Once (askAt L B f x img)
+  unfolding askAt askSecond frontAt backAt
+  once h =
+      of-read Once f (frontMembers L (bucketAt f img)) tt λ xs e.
+      of-search Once (foundIn x xs) (λ s d. once-at _ (omega arith) refl) (of-test Once (eqb (length xs) (L .frontSlots) && ltb (largest xs) x)
+      (of-read Once (fronts B + firstBucket f) (back (firstBucket f)) tt λ ys r.
+      of-search Once (foundIn (x * 16 + firstCrumb f) ys) (λ s d. bare ys r d)
+      (of-read Once (fronts B + secondBucket B f) (back (secondBucket B f)) tt λ zs q.
+      of-search Once (foundIn (x * 16 + secondCrumb f) zs) (λ s d. once-at _ (omega (arith, reads-same B f c)) refl)
+      (once-at _ (omega (arith, reads-same B f c)) refl)))
+      (once-at _ (omega arith) refl))
+    where
+      back : ℕ → Option (List ℕ)
+      back j = backMembers L B j (bucketAt (fronts B + j) img)
+
+      bare : (ys : List ℕ) {s : Found} {a : Asked} → backAt L B (firstBucket f) img ≡ accepted ys → foundIn (x * 16 + firstCrumb f) ys ≡ some s → AskedOnce a
+      bare ys r d = let n = first-none B f h L img c x ys r in let z : _≡_ {A = ℕ} 0 1 = cc in absurd (omega arith)
+
+  pub ask-once : f < fronts B → {a : Asked} → askAt L B f x img ≡ accepted a → AskedOnce a
+  ask-once h e = rw e at (once h)
+
+  pub count-once : {n : Counted} → countAt L B f x img ≡ accepted n → n .reads ≤ 2
+  unfolding countAt
+  count-once {n} e =
+      let p = andThen-accepted (frontAt L f img) _ n e in
+      go (p .0) (eqb (length (p .0)) (L .frontSlots) && leb (largest (p .0)) x) (p .2)
+    where
+      many : List ℕ → List ℕ × List ℕ → ℕ
+      many xs b = copies x xs + copies (x * 16 + firstCrumb f) (b .0) + copies (x * 16 + secondCrumb f) (b .1)
+
+      go : (xs : List ℕ) (b : Bool)
+          → cond b (andThen (backyard L B f img) λ b. counted (readsBehind B f) (many xs b)) (counted 1 (copies x xs)) ≡ accepted n → n .reads ≤ 2
+      go xs true q =
+          let b = andThen-accepted (backyard L B f img) _ n q in
+          omega (arith, ap (λ (m : Counted). m .reads) (same-answer (b .2)), reads-same B f c)
+      go xs false q = omega (arith, ap (λ (m : Counted). m .reads) (same-answer q))
+
+  -- "such a member now always carries choice 1"
+  pub none-first : f < fronts B → Good L B img → part L B true f x img ≡ 0
+  unfolding part
+  none-first h good = first-bare B f h c x (inBack L B (firstBucket f) img) (bucketOf-list L B f img good h true .crumbs)
