@@ -20,9 +20,10 @@ use Rattle.buckets.specs.Buckets.{Fits64, frontMembers, backMembers}
 use Rattle.minifilter.specs.Steps.Readings.{readingOf}
 use Rattle.machine.specs.Results.{Result, accepted, refused, andThen}
 use Rattle.machine.specs.Images.{sizeOf, bucketAt, frontAt, backAt, inFront, inBack}
-use Rattle.machine.specs.Machine.{Asked, askAt}
+use Rattle.machine.specs.Machine.{Asked, readsBehind, askSecond, askAt}
 use Rattle.machine.proofs.AcceptedLaws.{was-sound, same-answer, never-refused}
-use Rattle.machine.proofs.RowLaws.{of-search, of-test, ask-ends, asked-some, ask-refused}
+use Rattle.machine.proofs.ChoiceLaws.{reads-most}
+use Rattle.machine.proofs.RowLaws.{Ends, ask-ends, of-search, of-test, asked-some, ask-refused}
 use Rattle.form.specs.Tails.{body}
 use Rattle.form.proofs.TailLaws.{length-body}
 use Rattle.image.specs.Steps.ImageReads.{FrontIn, BackIn, FrontRead, BackRead, FrontSays, BackSays}
@@ -65,13 +66,17 @@ none-read = record { front = λ h. absurd (omega arith); first = λ h. absurd (o
 -- the buckets that an accepted ask has read are sound
 module _ {L : Layout} (fits : Fits64 L) {B f : ℕ} {img : List ℕ} (bytes : Bytes img) (within : FrontIn B f img) where
   pub asked-read : (x : ℕ) {a : Asked} → askAt L B f x img ≡ accepted a → GroupRead L B f img (a .reads) × (0 < a .reads) × (a .reads ≤ 3)
-  asked-read x e = rw e at (ask-ends L B f x img (GroupRead L B f img)
-      (λ xs e. record { front = λ h. front-read fits bytes within e; first = λ h. absurd (omega arith); second = λ h. absurd (omega arith) })
-      (λ ys r e. record { front = λ h. r .front (omega arith); first = λ h. back true e; second = λ h. absurd (omega arith) })
-      (λ zs r e. record { front = λ h. r .front (omega arith); first = λ h. r .first (omega arith); second = λ h. back false e }))
+  asked-read x e = let r = rw e at ends in (r .0, r .1, omega (arith, r .2, reads-most B f))
     where
       back : (t : Bool) {ys : List ℕ} → backAt L B (bucketOf t B f) img ≡ accepted ys → BackRead L B (bucketOf t B f) img
       back t e = back-read fits bytes (back-in (within .whole) (bucketOf-lt t B f (within .front))) e
+
+      ends : Ends B f (GroupRead L B f img) (askAt L B f x img)
+      ends =
+          ask-ends L B f x img (GroupRead L B f img)
+          (λ xs e. record { front = λ h. front-read fits bytes within e; first = λ h. absurd (omega arith); second = λ h. absurd (omega arith) })
+          (λ ys r e. record { front = λ h. r .front (omega arith); first = λ h. back true e; second = λ h. absurd (omega arith) })
+          (λ zs r e. record { front = λ h. r .front (omega arith); first = λ h. r .first (omega arith); second = λ h. back false e })
 
 -- an image has at most 524,288 front buckets
 pub front-most : {B f : ℕ} {img : List ℕ} → FrontIn B f img → f < 524288
@@ -112,14 +117,17 @@ module _ {L : Layout} {B f reads : ℕ} {img : List ℕ} (group : GroupRead L B 
 
   -- where all three are read, and for a key that its front bucket settles
   all-asked : (x : ℕ) → 3 ≤ reads → Within (askAt L B f x img)
-  unfolding askAt
+  unfolding askAt askSecond
   all-asked x h =
       rw (group .front (omega arith) .accepts, group .first (omega arith) .accepts, group .second (omega arith) .accepts)
       (of-search Within (foundIn x xs) (λ s e. ending _ (omega arith)) (of-test Within (eqb (length xs) (L .frontSlots) && ltb (largest xs) x)
       (of-search Within (foundIn (x * 16 + firstCrumb f) (inBack L B (firstBucket f) img)) (λ s e. ending _ (omega arith))
-      (of-search Within (foundIn (x * 16 + secondCrumb f) (inBack L B (secondBucket B f) img)) (λ s e. ending _ h) (ending _ h)))
+      (of-search Within (foundIn (x * 16 + secondCrumb f) (inBack L B (secondBucket B f) img)) (λ s e. ending _ last) (ending _ last)))
       (ending _ (omega arith))))
     where
+      last : readsBehind B f ≤ reads
+      last = omega (arith, reads-most B f)
+
       xs : List ℕ
       xs = inFront L f img
 

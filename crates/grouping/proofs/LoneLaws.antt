@@ -11,7 +11,7 @@ use lib.Dec.{eqb, ltb}
 use borrow.Author.Tests.{eq-eqb, ne-eqb, le-ltb, eqb-true}
 use Rattle.multiset.specs.Multisets.{Found, foundIn, largest}
 use Rattle.crumbmap.specs.Layouts.{Layout, keys, fronts}
-use Rattle.crumbmap.specs.CrumbMap.{firstBucket, secondBucket, firstCrumb, secondCrumb, bucketOf, crumbOf}
+use Rattle.crumbmap.specs.CrumbMap.{firstBucket, secondBucket, firstCrumb, secondCrumb, bucketOf, crumbOf, coincide}
 use Rattle.crumbmap.specs.Fingerprints.{frontOf, keyOf}
 use Rattle.crumbmap.specs.Steps.Places.{Leads}
 use Rattle.crumbmap.specs.declared.Overflow.{Overflow}
@@ -20,9 +20,10 @@ use Rattle.search.specs.Steps.Searches.{searchOf}
 use Rattle.search.specs.declared.Search.{Search}
 use Rattle.machine.specs.Results.{Result, accepted, refused, andThen, number, orUnsound}
 use Rattle.machine.specs.Images.{bucketAt, frontAt, backAt, inFront, inBack}
-use Rattle.machine.specs.Machine.{Asked, asked, denied, front, first, second, askAt}
+use Rattle.machine.specs.Machine.{Asked, asked, denied, front, first, second, readsBehind, askSecond, askAt}
 use Rattle.machine.specs.Calls.{askOf}
-use Rattle.machine.proofs.AskLaws.{askSecond, askBehind}
+use Rattle.machine.proofs.AskLaws.{askBehind}
+use Rattle.machine.proofs.CoincideLaws.{behind-same}
 use Rattle.machine.proofs.RoomLaws.{found-room}
 use Rattle.machine.proofs.RowLaws.{ask-at}
 use Rattle.image.specs.Steps.ImageReads.{Whole, FrontRead, BackRead, Exceeds}
@@ -135,38 +136,41 @@ module _ (L : Layout) (B f x : ℕ) (img : List ℕ) where
     unfolding askBehind
     past-first r e = sym (ask-exceeds B over ∙ rw (r, e))
 
-    -- an accepted ask has found b0 sound, and b1 where it went on
+    -- an accepted ask has found b0 sound
     pub first-sound : number (askAt L B f x img) ≡ 0 → (ys : List ℕ) × (backAt L B (firstBucket f) img ≡ accepted ys)
     unfolding backAt askBehind
     first-sound e =
         then-sound (fronts B + firstBucket f) (backMembers L B (firstBucket f) (bucketAt (fronts B + firstBucket f) img)) _ (sym (ap number (ask-exceeds B over)) ∙ e)
 
-    pub second-sound : {ys : List ℕ} → backAt L B (firstBucket f) img ≡ accepted ys → foundIn (x * 16 + firstCrumb f) ys ≡ none
-        → number (askAt L B f x img) ≡ 0 → (zs : List ℕ) × (backAt L B (secondBucket B f) img ≡ accepted zs)
-    unfolding backAt askSecond
-    second-sound r e h =
-        then-sound (fronts B + secondBucket B f) (backMembers L B (secondBucket B f) (bucketAt (fronts B + secondBucket B f) img)) _
-        (ap number (past-first r e) ∙ h)
+    -- where b0 = b1, it goes on to b1 at once
+    pub same-first : f < fronts B → coincide B f ≡ true → askSecond L B f x img ≡ askAt L B f x img
+    same-first h c = sym (ask-exceeds B over ∙ behind-same L B f x img c h)
+
+  -- an ask that went on to b1 and is accepted has found it sound
+  pub second-sound : askSecond L B f x img ≡ askAt L B f x img → number (askAt L B f x img) ≡ 0
+      → (zs : List ℕ) × (backAt L B (secondBucket B f) img ≡ accepted zs)
+  unfolding backAt askSecond
+  second-sound on h =
+      then-sound (fronts B + secondBucket B f) (backMembers L B (secondBucket B f) (bucketAt (fronts B + secondBucket B f) img)) _ (ap number on ∙ h)
 
   -- what is found in b1
-  pub second-found : BackRead L B (secondBucket B f) img → {s : Found} → foundIn (x * 16 + secondCrumb f) (inBack L B (secondBucket B f) img) ≡ some s
-      → asked 3 second s ≡ askSecond L B f x img
-  unfolding askSecond
-  second-found r e = rw (r .accepts, e)
+  module _ (r : BackRead L B (secondBucket B f) img) {n : ℕ} (reads : n ≡ readsBehind B f) where
+    pub second-found : {s : Found} → foundIn (x * 16 + secondCrumb f) (inBack L B (secondBucket B f) img) ≡ some s → asked n second s ≡ askSecond L B f x img
+    unfolding askSecond
+    second-found e = rw (r .accepts, e, reads)
 
-  pub none-found : BackRead L B (secondBucket B f) img → foundIn (x * 16 + secondCrumb f) (inBack L B (secondBucket B f) img) ≡ none
-      → denied 3 ≡ askSecond L B f x img
-  unfolding askSecond
-  none-found r e = rw (r .accepts, e)
+    pub none-found : foundIn (x * 16 + secondCrumb f) (inBack L B (secondBucket B f) img) ≡ none → denied n ≡ askSecond L B f x img
+    unfolding askSecond
+    none-found e = rw (r .accepts, e, reads)
 
-  -- found or not, it is the third read
-  pub second-read : BackRead L B (secondBucket B f) img → (a : Asked) × (accepted a ≡ askSecond L B f x img) × (a .reads ≡ 3)
+  -- found or not, it is the last read
+  pub second-read : BackRead L B (secondBucket B f) img → (a : Asked) × (accepted a ≡ askSecond L B f x img) × (a .reads ≡ readsBehind B f)
   second-read r = go (foundIn (x * 16 + secondCrumb f) (inBack L B (secondBucket B f) img)) refl
     where
       go : (o : Option Found) → foundIn (x * 16 + secondCrumb f) (inBack L B (secondBucket B f) img) ≡ o
-          → (a : Asked) × (accepted a ≡ askSecond L B f x img) × (a .reads ≡ 3)
-      go none e = (_, none-found r e, refl)
-      go (some s) e = (_, second-found r e, refl)
+          → (a : Asked) × (accepted a ≡ askSecond L B f x img) × (a .reads ≡ readsBehind B f)
+      go none e = (_, none-found r refl e, refl)
+      go (some s) e = (_, second-found r refl e, refl)
 
   pub second-unsound : {i : ℕ} → backAt L B (secondBucket B f) img ≡ refused 3 i → refused 3 i ≡ askSecond L B f x img
   unfolding askSecond

@@ -7,6 +7,7 @@ use crumbmap::fingerprint::front_of;
 use crumbmap::fingerprint::key_of;
 use crumbmap::layout::FRONT_SLOTS;
 use crumbmap::layout::KEYS;
+use crumbmap::map::coincide;
 use crumbmap::map::first_of;
 use crumbmap::map::second_of;
 use image::BackReading;
@@ -197,11 +198,14 @@ fn share_again(image: &[u8], size: usize, front: Front, key: u32) -> Shared
     Shared::Read(2)
 }
 
-// b1 is read, for a key that is not in b0; whether it is there makes no difference to the reads.
+// b1 is read, unless it was as b0, for a key that is not in First(f); whether it is there makes no difference to the reads.
 fn share_second(image: &[u8], size: usize, front: Front, key: u32, reads: u32) -> Shared
     requires { ⌜ FrontIn size (front .0) (now image) × (key < keys layout1) × PastFirst layout1 size (front .0) key (now image) × (reads < 3) ⌝ }
     ensures { λ r. ⌜ sharedOf r ≡ sharing layout1 size (front .0) key (now (image .entry)) reads ⌝ }
 {
+    if coincide(front, size) {
+        return Shared::Read(2);
+    }
     let way = second_of(front, size);
     let Reading::Members(_, _) = read_back_at(image, size, way.bucket, key * 16 + way.crumb) else {
         return Shared::Unsound(table_of(size, way.bucket));

@@ -5,6 +5,7 @@ use answers::Entry;
 use crumbmap::Front;
 use crumbmap::fingerprint::front_of;
 use crumbmap::fingerprint::key_of;
+use crumbmap::map::coincide;
 use crumbmap::map::first_of;
 use crumbmap::map::second_of;
 use image::back::seek_at;
@@ -15,9 +16,10 @@ ghost use mathlib.Core.Path.{_≡_};
 ghost use Prim.Native.Nat.{_<_, _^_};
 ghost use Rattle.crumbmap.specs.Layouts.{layout1, keys};
 ghost use Rattle.machine.specs.Results.{number};
-ghost use Rattle.machine.specs.Machine.{askAt};
+ghost use Rattle.crumbmap.specs.CrumbMap.{secondBucket};
+ghost use Rattle.machine.specs.Machine.{readsBehind, askSecond, askAt};
 ghost use Rattle.machine.specs.Calls.{askOf};
-ghost use Rattle.image.specs.Steps.ImageReads.{Whole, FrontIn, Exceeds};
+ghost use Rattle.image.specs.Steps.ImageReads.{Whole, FrontIn, BackRead, Exceeds};
 ghost use Rattle.grouping.specs.Steps.Grouping.{told, toldBy, filled};
 
 // An entry whose ask is accepted, with its answer.
@@ -38,18 +40,30 @@ pub fn tell(image: &[u8], size: usize, e: Entry) -> Entry
     }
 }
 
-// The same for a key that exceeds the largest of a full front bucket.
+// The same for a key that exceeds the largest of a full front bucket. Where its two backyard buckets are one, none of its members carries choice 0.
 fn tell_behind(image: &[u8], size: usize, front: Front, key: u32, e: Entry) -> Entry
     requires { ⌜ FrontIn size (front .0) (now image) × (key < keys layout1) × Exceeds layout1 (front .0) key (now image)
         × (number (askAt layout1 size (front .0) key (now image)) ≡ 0) ⌝ }
     ensures { λ r. ⌜ r ≡ toldBy e (askAt layout1 size (front .0) key (now (image .entry))) ⌝ }
 {
+    if coincide(front, size) {
+        return tell_second(image, size, front, key, e, 2);
+    }
     match seek_at(image, size, first_of(front, size), key) {
         Search::At(slot, copies) => answered(e, 2, 2, slot, copies),
-        Search::Absent => match seek_at(image, size, second_of(front, size), key) {
-            Search::At(slot, copies) => answered(e, 3, 3, slot, copies),
-            Search::Absent => answered(e, 3, 0, 0, 0),
-        },
+        Search::Absent => tell_second(image, size, front, key, e, 3),
+    }
+}
+
+// The same by b1, the last bucket: so many are read with it.
+fn tell_second(image: &[u8], size: usize, front: Front, key: u32, e: Entry, reads: u32) -> Entry
+    requires { ⌜ FrontIn size (front .0) (now image) × (key < keys layout1) × BackRead layout1 size (secondBucket size (front .0)) (now image)
+        × (reads ≡ readsBehind size (front .0)) ⌝ }
+    ensures { λ r. ⌜ r ≡ toldBy e (askSecond layout1 size (front .0) key (now (image .entry))) ⌝ }
+{
+    match seek_at(image, size, second_of(front, size), key) {
+        Search::At(slot, copies) => answered(e, reads, 3, slot, copies),
+        Search::Absent => answered(e, reads, 0, 0, 0),
     }
 }
 

@@ -1,5 +1,5 @@
 -- The endings of an ask, for any layout. In front: `ask-here`, `ask-few`, `ask-low`; behind a full front bucket (`exceeds`), by what
--- seeking in b0 and then in b1 finds: `ask-first`, `ask-second`.
+-- seeking in b0 and then in b1 finds: `ask-first`, `ask-second`, `ask-same`.
 use mathlib.Core.Path.{_≡_, refl, sym, _∙_}
 use Prim.Native.Nat.{ℕ, _+_, _*_, _≤_, _<_}
 use mathlib.Core.Bool.{Bool, true, false}
@@ -10,7 +10,7 @@ use lib.ListN.{length}
 use borrow.Author.Tests.{eq-eqb, ne-eqb, le-ltb}
 use Rattle.multiset.specs.Multisets.{Found, foundIn, largest}
 use Rattle.crumbmap.specs.Layouts.{Layout, fronts}
-use Rattle.crumbmap.specs.CrumbMap.{bucketOf, crumbOf}
+use Rattle.crumbmap.specs.CrumbMap.{bucketOf, crumbOf, coincide}
 use Rattle.crumbmap.specs.Steps.Places.{Leads}
 use Rattle.crumbmap.specs.declared.Overflow.{Overflow}
 use Rattle.buckets.specs.Buckets.{backMembers}
@@ -20,8 +20,9 @@ use Rattle.search.specs.declared.Search.the-variants.{At, Absent}
 use Rattle.search.proofs.FoundLaws.{search-some, search-none}
 use Rattle.machine.specs.Results.{Result, refused, andThen, orUnsound}
 use Rattle.machine.specs.Images.{bucketAt, backAt, inFront}
-use Rattle.machine.specs.Machine.{Asked, asked, denied, front, first, second, found, askAt}
-use Rattle.machine.proofs.AskLaws.{askSecond, askBehind}
+use Rattle.machine.specs.Machine.{Asked, asked, denied, front, first, second, found, readsBehind, askSecond, askAt}
+use Rattle.machine.proofs.AskLaws.{askBehind}
+use Rattle.machine.proofs.CoincideLaws.{behind-same}
 use Rattle.image.specs.Steps.ImageReads.{Exceeds}
 use Rattle.image.proofs.ImageReadLaws.{ask-exceeds}
 use Rattle.lookup.specs.Steps.Lookups.{soughtBy, soughtIn}
@@ -90,6 +91,10 @@ module _ (L : Layout) (B f x : ℕ) (img : List ℕ) {w : Overflow} {o r : Sough
   unfolding askBehind
   ask-first e leads = sym (ask-exceeds B e ∙ seeks true leads (asked 2 first) (askSecond L B f x img))
 
-  pub ask-second : Leads false B f w → sought (asked 3 second) (denied 3) r ≡ askSecond L B f x img
+  pub ask-second : Leads false B f w → {n : ℕ} → n ≡ readsBehind B f → sought (asked n second) (denied n) r ≡ askSecond L B f x img
   unfolding askSecond
-  ask-second leads = sym (seeks false leads (asked 3 second) (denied 3))
+  ask-second leads {n} e = rw (← e) (sym (seeks false leads (asked n second) (denied n)))
+
+-- where b0 = b1, seeking in the one bucket settles it
+pub ask-same : {L : Layout} (B : ℕ) {f x : ℕ} {img : List ℕ} → f < fronts B → Exceeds L f x img → coincide B f ≡ true → askSecond L B f x img ≡ askAt L B f x img
+ask-same {L} B {f} {x} {img} h e c = sym (ask-exceeds B e ∙ behind-same L B f x img c h)

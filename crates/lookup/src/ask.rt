@@ -1,37 +1,31 @@
 // Ask: "reads the front bucket; if g is not there, and Front(f) holds 28 and g exceeds its largest, b0, then, if not found, b1".
 
 use crate::Sought;
+use crate::seek::seek;
 use answers::AskResult;
 use answers::Asked;
 use answers::Place;
 use answers::Refusal;
-use crumbmap::Overflow;
 use crumbmap::layout::FRONT_SLOTS;
+use crumbmap::map::coincide;
 use crumbmap::map::first_of;
 use crumbmap::map::second_of;
 use image::Target;
-use image::back::read_back_at;
 use image::front::read_front_at;
-use image::place::back_bucket;
 use image::place::bucket;
-use image::place::table_of;
 use image::place::target_of;
 use minifilter::Reading;
 use search::Search;
-use search::find::find_back;
 use search::find::find_front;
 use search::find::largest_front;
 use tails::Opening;
 use tails::open::open_image;
 ghost use mathlib.Core.Path.{_≡_};
-ghost use Prim.Native.Nat.{_+_, _*_, _<_};
-ghost use Rattle.crumbmap.specs.Layouts.{layout1, known, keys};
-ghost use Rattle.machine.specs.Images.{backAt};
-ghost use Rattle.machine.specs.Machine.{askAt, denied};
+ghost use Rattle.crumbmap.specs.Layouts.{layout1, known};
+ghost use Rattle.machine.specs.Machine.{readsBehind, askSecond, askAt, denied};
 ghost use Rattle.form.specs.Calls.{askOf};
 ghost use Rattle.answers.specs.Answers.{askedOf};
-ghost use Rattle.image.specs.Steps.ImageReads.{Placed, BackIn, Exceeds};
-ghost use Rattle.lookup.specs.Steps.Lookups.{soughtIn};
+ghost use Rattle.image.specs.Steps.ImageReads.{Placed, Exceeds};
 
 // Where the fingerprint of a hash stands and how often there, and how many buckets were read to tell.
 pub fn ask(image: &[u8], hash: u64) -> AskResult
@@ -75,7 +69,7 @@ fn ask_at(image: &[u8], target: Target) -> AskResult
     }
 }
 
-// The backyard buckets of a front bucket that holds 28, all smaller.
+// The backyard buckets of a front bucket that holds 28, all smaller. Where they are one, none of its members carries choice 0, and it is read once.
 fn ask_behind(image: &[u8], target: Target) -> AskResult
     requires { ⌜ Placed layout1 target (now image) × Exceeds layout1 (target .front .0) (target .key) (now image) ⌝ }
     ensures { λ r. ⌜ askedOf r ≡ askAt layout1 (target .size) (target .front .0) (target .key) (now (image .entry)) ⌝ }
@@ -83,6 +77,9 @@ fn ask_behind(image: &[u8], target: Target) -> AskResult
     let size = target.size;
     let front = target.front;
     let key = target.key;
+    if coincide(front, size) {
+        return ask_second(image, target, 2);
+    }
     match seek(image, size, first_of(front, size), key) {
         Sought::Unsound(table) => AskResult::Refused(Refusal::Unsound(table)),
         Sought::At(slot, copies) => AskResult::Accepted(Asked {
@@ -90,31 +87,26 @@ fn ask_behind(image: &[u8], target: Target) -> AskResult
             place: Place::First(slot),
             copies,
         }),
-        Sought::Absent => match seek(image, size, second_of(front, size), key) {
-            Sought::Unsound(table) => AskResult::Refused(Refusal::Unsound(table)),
-            Sought::At(slot, copies) => AskResult::Accepted(Asked {
-                reads: 3,
-                place: Place::Second(slot),
-                copies,
-            }),
-            Sought::Absent => none_in(3),
-        },
+        Sought::Absent => ask_second(image, target, 3),
     }
 }
 
-// One backyard bucket is read, and the key sought with the crumb that it carries there.
-fn seek(image: &[u8], size: usize, way: Overflow, key: u32) -> Sought
-    requires { ⌜ BackIn size (way .bucket .0) (now image) × (way .crumb < 16) × (key < keys layout1) ⌝ }
-    ensures { λ r. ⌜ r ≡ soughtIn (key * 16 + way .crumb) (backAt layout1 size (way .bucket .0) (now (image .entry))) ⌝ }
+// b1, the last of them: so many are read with it.
+fn ask_second(image: &[u8], target: Target, reads: u32) -> AskResult
+    requires { ⌜ Placed layout1 target (now image) × (reads ≡ readsBehind (target .size) (target .front .0)) ⌝ }
+    ensures { λ r. ⌜ askedOf r ≡ askSecond layout1 (target .size) (target .front .0) (target .key) (now (image .entry)) ⌝ }
 {
-    let bucket = way.bucket;
-    let member = key * 16 + way.crumb;
-    let Reading::Members(_, below) = read_back_at(image, size, bucket, member) else {
-        return Sought::Unsound(table_of(size, bucket));
-    };
-    match find_back(back_bucket(image, size, bucket), below, member) {
-        Search::At(slot, copies) => Sought::At(slot, copies),
-        Search::Absent => Sought::Absent,
+    let size = target.size;
+    let front = target.front;
+    let key = target.key;
+    match seek(image, size, second_of(front, size), key) {
+        Sought::Unsound(table) => AskResult::Refused(Refusal::Unsound(table)),
+        Sought::At(slot, copies) => AskResult::Accepted(Asked {
+            reads,
+            place: Place::Second(slot),
+            copies,
+        }),
+        Sought::Absent => none_in(reads),
     }
 }
 

@@ -1,9 +1,13 @@
 // Count: "those in Front(f), 1 read; if Front(f) holds 28 and g is not below its largest, those in First(f) and Second(f) too, 3 reads".
 
+use crate::Sought;
+use crate::seek::seek;
 use answers::CountResult;
 use answers::Counted;
 use answers::Refusal;
 use crumbmap::layout::FRONT_SLOTS;
+use crumbmap::map::coincide;
+use crumbmap::map::second_of;
 use crumbmap::map::ways_of;
 use image::BackyardReading;
 use image::Target;
@@ -19,7 +23,9 @@ use search::find::largest_front;
 use tails::Opening;
 use tails::open::open_image;
 ghost use mathlib.Core.Path.{_≡_};
+ghost use mathlib.Core.Bool.{true};
 ghost use Rattle.crumbmap.specs.Layouts.{layout1, known};
+ghost use Rattle.crumbmap.specs.CrumbMap.{coincide as coinciding};
 ghost use Rattle.machine.specs.Machine.{countAt};
 ghost use Rattle.form.specs.Calls.{countOf};
 ghost use Rattle.answers.specs.Answers.{countedOf};
@@ -68,6 +74,9 @@ fn count_behind(image: &[u8], target: Target, here: usize) -> CountResult
     let size = target.size;
     let front = target.front;
     let key = target.key;
+    if coincide(front, size) {
+        return count_second(image, target, here);
+    }
     match read_backyard(image, size, front, ways_of(front, size), key) {
         BackyardReading::Unsound(table) => CountResult::Refused(Refusal::Unsound(table)),
         BackyardReading::Sound(a, b) => {
@@ -77,5 +86,26 @@ fn count_behind(image: &[u8], target: Target, here: usize) -> CountResult
             let copies = near + second;
             CountResult::Accepted(Counted { copies, reads: 3 })
         }
+    }
+}
+
+// The same where they are one, which is read once: none of the front bucket's members carries choice 0.
+fn count_second(image: &[u8], target: Target, here: usize) -> CountResult
+    requires { ⌜ Reaches layout1 target here (now image) × (coinciding (target .size) (target .front .0) ≡ true) ⌝ }
+    ensures { λ r. ⌜ countedOf r ≡ countAt layout1 (target .size) (target .front .0) (target .key) (now (image .entry)) ⌝ }
+{
+    let size = target.size;
+    let front = target.front;
+    let key = target.key;
+    match seek(image, size, second_of(front, size), key) {
+        Sought::Unsound(table) => CountResult::Refused(Refusal::Unsound(table)),
+        Sought::At(_, second) => {
+            let copies = here + second;
+            CountResult::Accepted(Counted { copies, reads: 2 })
+        }
+        Sought::Absent => CountResult::Accepted(Counted {
+            copies: here,
+            reads: 2,
+        }),
     }
 }

@@ -19,12 +19,11 @@ use Rattle.multiset.proofs.RankLaws.{found-none}
 use Rattle.crumbmap.specs.Layouts.{Layout, fronts}
 use Rattle.crumbmap.specs.CrumbMap.{firstBucket, secondBucket, firstCrumb, bucketOf, crumbOf, coincide, allowed, home}
 use Rattle.crumbmap.proofs.CrumbMapLaws.{home-bucketOf, crumbOf-lt}
-use Rattle.buckets.specs.Buckets.{isSome, valid, backMembers}
-use Rattle.buckets.proofs.BucketLaws.{read-back}
-use Rattle.machine.specs.Results.{Result, accepted}
-use Rattle.machine.specs.Images.{bucketAt, backAt}
+use Rattle.buckets.specs.Buckets.{isSome, valid}
+use Rattle.machine.specs.Results.{accepted}
+use Rattle.machine.specs.Images.{backAt}
 use Rattle.machine.specs.Machine.{readsBehind}
-use Rattle.machine.proofs.AcceptedLaws.{was-sound}
+use Rattle.machine.proofs.ImageLaws.{back-sound}
 
 -- ---- one bucket, where b0 = b1
 
@@ -104,9 +103,4 @@ module _ (B f : ℕ) (h : f < fronts B) where
   -- in any image
   pub first-none : (L : Layout) (img : List ℕ) → coincide B f ≡ true → (v : ℕ) (ys : List ℕ) → backAt L B (firstBucket f) img ≡ accepted ys
       → foundIn (v * 16 + firstCrumb f) ys ≡ none
-  unfolding backAt
-  first-none L img c v ys e =
-      let j = firstBucket f in
-      let b = bucketAt (fronts B + j) img in
-      found-none (v * 16 + firstCrumb f) ys
-      (first-bare c v ys (read-back L B j b ys (was-sound (fronts B + j) (backMembers L B j b) ys e) .crumbs))
+  first-none L img c v ys e = found-none (v * 16 + firstCrumb f) ys (first-bare c v ys (back-sound L B (firstBucket f) img ys e .crumbs))

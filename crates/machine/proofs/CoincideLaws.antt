@@ -1,5 +1,5 @@
 -- Front buckets whose two backyard buckets coincide, b0 = b1. In any image an ask there has at most 2 reads and never ends in First, and a count has at
--- most 2 reads (`ask-once`, `count-once`); in a good one no member stands in First (`none-first`).
+-- most 2 reads (`ask-once`, `count-once`), since what goes behind comes to Second (`behind-same`, `count-same`); in a good one no member stands in First (`none-first`).
 use mathlib.Core.Path.{_≡_, refl, ap}
 use Prim.Native.Nat.{ℕ, _+_, _*_, _≤_, _<_}
 use mathlib.Core.Bool.{Bool, true, false, cond, _&&_}
@@ -8,6 +8,7 @@ use mathlib.Core.Option.{Option, none, some}
 use native.Mathlib.Omega.{arith}
 use lib.ListN.{length}
 use lib.Dec.{eqb, ltb, leb}
+use borrow.Author.Tests.{eq-eqb, le-leb}
 use Rattle.multiset.specs.Multisets.{copies, Found, foundIn, largest}
 use Rattle.crumbmap.specs.Layouts.{Layout, fronts}
 use Rattle.crumbmap.specs.CrumbMap.{firstBucket, secondBucket, firstCrumb, secondCrumb, coincide}
@@ -17,9 +18,11 @@ use Rattle.machine.specs.Images.{bucketAt, frontAt, backAt, inBack}
 use Rattle.machine.specs.Machine.{Place, nowhere, front, first, second, Asked, Counted, counted, readsBehind, backyard, askSecond, askAt, countAt}
 use Rattle.machine.specs.Once.{AskedOnce}
 use Rattle.machine.proofs.AcceptedLaws.{same-answer, andThen-accepted}
+use Rattle.machine.proofs.ImageLaws.{back-sound}
 use Rattle.machine.proofs.Invariant.{Good, part}
 use Rattle.machine.proofs.OverflowLaws.{bucketOf-list}
-use Rattle.machine.proofs.ChoiceLaws.{reads-same, first-bare, first-none}
+use Rattle.machine.proofs.ChoiceLaws.{same-bucket, reads-same, first-bare, first-none}
+use Rattle.machine.proofs.AskLaws.{askBehind}
 use Rattle.machine.proofs.RowLaws.{of-read, of-search, of-test}
 
 -- a place other than first
@@ -33,6 +36,30 @@ once-at : (a : Asked) → a .reads ≤ 2 → isFirst (a .place) ≡ 0 → AskedO
 once-at a few other = record { few = few; not-first = λ i e. omega (arith, other, ap isFirst e) }
 
 module _ (L : Layout) (B f x : ℕ) (img : List ℕ) (c : coincide B f ≡ true) where
+  -- an ask that goes behind comes to Second(f) at once, unsound or not
+  pub behind-same : f < fronts B → askBehind L B f x img ≡ askSecond L B f x img
+  unfolding askBehind askSecond
+  behind-same h = go (backAt L B (firstBucket f) img) refl
+    where
+      go : (r : Result (List ℕ)) → backAt L B (firstBucket f) img ≡ r → askBehind L B f x img ≡ askSecond L B f x img
+      go (accepted ys) e = rw (e, first-none B f h L img c x ys e)
+      go (refused n i) e = rw (e, rw (same-bucket B f c) at e)
+
+  -- and so does a count
+  pub count-same : f < fronts B → (xs : List ℕ) → frontAt L f img ≡ accepted xs → length xs ≡ L .frontSlots → largest xs ≤ x
+      → countAt L B f x img ≡ andThen (backAt L B (secondBucket B f) img) λ zs. counted 2 (copies x xs + copies (x * 16 + secondCrumb f) zs)
+  unfolding countAt
+  count-same h xs read full most =
+      rw (read, eq-eqb (length xs) (L .frontSlots) full, le-leb (largest xs) x most, reads-same B f c) (go (backAt L B (firstBucket f) img) refl)
+    where
+      go : (r : Result (List ℕ)) → backAt L B (firstBucket f) img ≡ r
+          → andThen (backyard L B f img) (λ b. counted 2 (copies x xs + copies (x * 16 + firstCrumb f) (b .0) + copies (x * 16 + secondCrumb f) (b .1)))
+          ≡ andThen (backAt L B (secondBucket B f) img) λ zs. counted 2 (copies x xs + copies (x * 16 + secondCrumb f) zs)
+      go (accepted ys) e =
+          let n = first-bare B f h c x ys (back-sound L B (firstBucket f) img ys e .crumbs) in
+          rw (e, rw (same-bucket B f c) at e) (ap (counted 2) (omega arith))
+      go (refused n i) e = rw (e, rw (same-bucket B f c) at e)
+
   -- what is true of an accepted ask
   abbrev Once : Result Asked → Type 0
   Once (accepted a) = AskedOnce a

@@ -14,7 +14,7 @@ use Rattle.multiset.specs.Multisets.{Below}
 use Rattle.multiset.proofs.MultisetLaws.{below-take, below-drop, below-of-at}
 use Rattle.crumbmap.specs.Layouts.{Layout, fronts, backyards}
 use Rattle.buckets.specs.Buckets.{frontMembers, backMembers, frontBytes, backBytes}
-use Rattle.buckets.proofs.BucketLaws.{frontList-members, backList-members}
+use Rattle.buckets.proofs.BucketLaws.{ReadBack, read-back, frontList-members, backList-members}
 use Rattle.machine.specs.Results.{accepted}
 use Rattle.machine.specs.Images.{lengthOf, sizeOf, bucketAt, repeated, frontAt, backAt, inFront, inBack, emptyImage}
 use Rattle.machine.proofs.AcceptedLaws.{was-sound}
@@ -85,6 +85,13 @@ module _ (L : Layout) where
   inBack-read B j img ys e =
       let b : List ℕ = bucketAt (fronts B + j) img in
       backList-members L B j b ys (was-sound (fronts B + j) (backMembers L B j b) ys e)
+
+  -- what a backyard bucket that was read says of its members
+  pub back-sound : (B j : ℕ) (img ys : List ℕ) → backAt L B j img ≡ accepted ys → ReadBack L B j (bucketAt (fronts B + j) img) ys
+  unfolding backAt
+  back-sound B j img ys e =
+      let b : List ℕ = bucketAt (fronts B + j) img in
+      read-back L B j b ys (was-sound (fronts B + j) (backMembers L B j b) ys e)
 
   -- ---- the empty image
 

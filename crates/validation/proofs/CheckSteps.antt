@@ -1,6 +1,6 @@
 -- The steps of a check, for any layout: what a pass over buckets or members still has before it, and what it has counted, turn by turn; what is known
 -- once every bucket was read; what a check that counts says. Main results: `front-on`, `back-on`, `early-on`, `members-on` with their `-stop` and
--- `-end`; `counts-on`; `turn-short`, `turn-full`; `all-read`; `check-refused`, `check-counted`, `total-refused`,
+-- `-end`; `counts-on`; `turn-short`, `turn-full`, `member-homed`; `all-read`; `check-refused`, `check-counted`, `total-refused`,
 -- `total-passed`.
 use mathlib.Core.Path.{_≡_, refl, sym, _∙_}
 use Prim.Native.Nat.{ℕ, suc, _+_, _/_, _%_, _-_, _≤_, _<_}
@@ -12,22 +12,21 @@ use native.Mathlib.Nat.{zero-add, add-mul}
 use native.Mathlib.Omega.{arith}
 use lib.ListN.{length, drop, getD}
 use lib.Seq.{drop-cons, drop-length}
-use lib.Dec.{leb}
+use lib.Dec.{T, leb}
 use borrow.Author.Tests.{eq-eqb, ne-eqb, not-true, not-false}
 use Rattle.multiset.specs.Multisets.{largest}
+use Rattle.multiset.proofs.SlotLaws.{copies-at}
 use Rattle.multiset.proofs.SumLaws.{sum-last}
 use Rattle.crumbmap.specs.Layouts.{Layout, fronts, backyards}
 use Rattle.crumbmap.specs.CrumbMap.{home}
-use Rattle.crumbmap.specs.Steps.Places.{homeOf}
-use Rattle.crumbmap.specs.declared.Home.{Home}
-use Rattle.crumbmap.specs.declared.Home.the-variants.{At, Invalid}
-use Rattle.crumbmap.specs.declared.Front.{Front}
-use Rattle.buckets.specs.Buckets.{Fits64, frontMembers, backMembers}
+use Rattle.crumbmap.specs.Steps.Places.{Homed}
+use Rattle.buckets.specs.Buckets.{Fits64, isSome, valid, frontMembers, backMembers}
 use Rattle.minifilter.specs.Steps.Readings.{readingOf}
 use Rattle.machine.specs.Results.{Result, accepted, refused, andThen}
 use Rattle.machine.specs.Images.{bucketAt, frontAt, backAt, inFront, inBack}
 use Rattle.machine.specs.Machine.{occupancy}
 use Rattle.machine.specs.Checks.{unsoundFront, unsoundBack, inTurn, homeInTurn, allInTurn, early, checkSized}
+use Rattle.machine.proofs.ChoiceLaws.{valid-member}
 use Rattle.machine.proofs.CheckLaws.{fronts-read, backs-read}
 use Rattle.machine.proofs.AcceptedLaws.{same-answer, never-refused, was-sound, andThen-accepted}
 use Rattle.form.specs.Tails.{Header, members}
@@ -159,13 +158,13 @@ turn-short {L} {f} {img} r x h = rw (r .accepts, ne-eqb (length (inFront L f img
 pub turn-full : {L : Layout} {f : ℕ} {img : List ℕ} → FrontFull L f img → (x : ℕ) → inTurn L x (frontAt L f img) ≡ leb (largest (inFront L f img)) x
 turn-full {L} {f} {img} w x = rw (w .read .accepts, eq-eqb (length (inFront L f img)) (L .frontSlots) (w .full))
 
-pub home-none : (o : Option ℕ) {r : Home} → r ≡ homeOf o → r ≡ Invalid → o ≡ none
-home-none none e f = refl
-home-none (some i) e f = let z : _≡_ {A = ℕ} 0 1 = cc in absurd (omega arith)
-
-pub home-some : (o : Option ℕ) {r : Home} {f : Front} → r ≡ homeOf o → r ≡ At f → o ≡ some (f .0)
-home-some none e f = let z : _≡_ {A = ℕ} 0 1 = cc in absurd (omega arith)
-home-some (some j) e f = cc
+-- each member of a sound bucket has a front bucket
+pub member-homed : (B j s : ℕ) (ys : List ℕ) → T (valid B j ys) → s < length ys → Homed B j (getD ys s 0 % 16)
+member-homed B j s ys v l = go (home B j (getD ys s 0 % 16)) refl (valid-member B j (getD ys s 0) ys v (copies-at s ys l))
+  where
+    go : (o : Option ℕ) → home B j (getD ys s 0 % 16) ≡ o → T (isSome o) → Homed B j (getD ys s 0 % 16)
+    go none e t = absurd t
+    go (some f) e t = (f, e)
 
 -- ---- every bucket of an image was read, where neither pass found an unsound one
 

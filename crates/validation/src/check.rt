@@ -8,7 +8,6 @@ use answers::Outcome;
 use answers::Refusal;
 use crumbmap::Backyard;
 use crumbmap::Front;
-use crumbmap::Home;
 use crumbmap::layout::FRONT_SLOTS;
 use crumbmap::map::home_of;
 use image::back::read_back_at;
@@ -28,6 +27,7 @@ ghost use mathlib.Core.Path.{_≡_};
 ghost use Prim.Native.Nat.{_/_, _%_, _<_};
 ghost use Rattle.crumbmap.specs.Layouts.{layout1, known, backyards};
 ghost use Rattle.crumbmap.specs.CrumbMap.{home};
+ghost use Rattle.crumbmap.specs.Steps.Places.{Homed};
 ghost use Rattle.machine.specs.Images.{inBack};
 ghost use Rattle.machine.specs.Checks.{homeInTurn, allInTurn, early};
 ghost use Rattle.form.specs.Calls.{checkedBy, checkOf};
@@ -158,12 +158,10 @@ fn bucket_in_turn(image: &[u8], size: usize, bucket: Backyard) -> bool
 
 // The front bucket of a backyard bucket's member holds 28, none larger than that member.
 fn member_in_turn(image: &[u8], size: usize, bucket: Backyard, member: u32) -> bool
-    requires { ⌜ AllRead layout1 size (now image) × (bucket .0 < backyards size) ⌝ }
+    requires { ⌜ AllRead layout1 size (now image) × (bucket .0 < backyards size) × Homed size (bucket .0) (member % 16) ⌝ }
     ensures { λ r. ⌜ r ≡ homeInTurn layout1 (home size (bucket .0) (member % 16)) (member / 16) (now (image .entry)) ⌝ }
 {
-    let Home::At(front) = home_of(size, bucket, member % 16) else {
-        return false;
-    };
+    let front = home_of(size, bucket, member % 16);
     let mine = bucket_of(image, front.0);
     if count_front(mine) != FRONT_SLOTS {
         return false;

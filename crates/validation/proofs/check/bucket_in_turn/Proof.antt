@@ -12,7 +12,7 @@ use Rattle.minifilter.specs.Steps.Readings.{SoundBack}
 use Rattle.machine.specs.Checks.{allInTurn, homeInTurn}
 use Rattle.image.specs.Steps.ImageReads.{BackRead}
 use Rattle.search.specs.Steps.Searches.{OnSlot}
-use Rattle.validation.proofs.CheckSteps.{members-on, members-stop, members-end}
+use Rattle.validation.proofs.CheckSteps.{member-homed, members-on, members-stop, members-end}
 use Rattle.validation.proofs.check.bucket_in_turn.Statement.{statement}
 use Rattle.validation.proofs.check.bucket_in_turn.Tie as tie
 
@@ -73,7 +73,16 @@ next-back-requires : tie.Need-next-back-requires Inv-loop μ-loop
 next-back-requires c κs = let l = c .before .before in (sound (lent (counted l)), l .loop .inv .0, used c)
 
 member-in-turn-requires : tie.Need-member-in-turn-requires Inv-loop μ-loop
-member-in-turn-requires c κs = start (lent (counted (turn c))) .pre
+member-in-turn-requires c κs =
+    let l = turn c in
+    let b = lent (counted l) in
+    let s = start b in
+    let list = rw (← b .back-bucket .ensures .0) at (read s .list .crumbs) in (
+      s .pre .0,
+      s .pre .1,
+      rw (c .next-back .ensures .0)
+          (member-homed (s .args .size) (s .args .bucket .0) (l .loop .at .slot) (backList layout1 (b .back-bucket .result .now)) list (used (c .before))),
+    )
 
 returns : tie.Need-returns Inv-loop μ-loop
 returns c =

@@ -1,4 +1,4 @@
--- `lookup::ask::seek` meets its contract. The bucket is refused, or searched.
+-- `lookup::seek::seek` meets its contract. The bucket is refused, or searched.
 use mathlib.Core.Path.{_≡_}
 use Prim.Native.Nat.{_+_, _*_}
 use mathlib.Core.Option.{Option}
@@ -11,8 +11,8 @@ use Rattle.search.proofs.FoundLaws.{search-some, search-none}
 use Rattle.machine.specs.Images.{inBack}
 use Rattle.image.specs.Steps.ImageReads.{BackRead}
 use Rattle.image.proofs.ImageReadLaws.{back-told, back-unsound}
-use Rattle.lookup.proofs.ask.seek.Statement.{statement}
-use Rattle.lookup.proofs.ask.seek.Tie as tie
+use Rattle.lookup.proofs.seek.seek.Statement.{statement}
+use Rattle.lookup.proofs.seek.seek.Tie as tie
 
 -- the points of the walk: it was sought there; the bytes are lent; the bucket is sound; it is read; the start
 abbrev lent : tie.After-find-back → tie.After-back-bucket
