@@ -5,6 +5,7 @@ use mathlib.Core.Path.{_≡_, refl}
 use Prim.Native.Nat.{ℕ, _+_, _*_, _≤_, _<_}
 use mathlib.Core.Bool.{Bool, true, false, cond, _&&_, and-false}
 use mathlib.Core.List.{List}
+use mathlib.Core.Option.{none, some}
 use native.Mathlib.Omega.{arith}
 use native.Mathlib.Decide.{decLe}
 use lib.ListN.{length}
@@ -28,6 +29,15 @@ room-second n n0 n1 h = rw (ne-eqb n1 n h) (and-false (eqb n0 n))
 pub room-chosen : (n : ℕ) (t : Bool) (ys zs : List ℕ) → length (cond t ys zs) < n → eqb (length ys) n && eqb (length zs) n ≡ false
 room-chosen n true ys zs r = room-first n (length ys) (length zs) (omega arith)
 room-chosen n false ys zs r = room-second n (length ys) (length zs) (omega arith)
+
+-- the bucket that takes an overflow is the first exactly where it holds fewer
+pub taker-fewer : (L : Layout) (n0 n1 : ℕ) (t : Bool) → taker L n0 n1 ≡ some t → ltb n0 n1 ≡ t
+unfolding taker
+taker-fewer L n0 n1 t e = go (eqb n0 (L .backSlots) && eqb n1 (L .backSlots)) e
+  where
+    go : (b : Bool) → cond b none (some (ltb n0 n1)) ≡ some t → ltb n0 n1 ≡ t
+    go true q = let z : _≡_ {A = ℕ} 0 1 = cc in absurd (omega arith)
+    go false q = cc
 
 module _ (L : Layout) (B f v : ℕ) (ys zs img : List ℕ) where
   -- the image after v joined the bucket of choice t

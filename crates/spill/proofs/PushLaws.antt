@@ -21,8 +21,9 @@ use Rattle.machine.specs.Images.{bucketAt, backAt, inBack, putFront, putBack}
 use Rattle.machine.specs.Machine.{taker, takeIn}
 use Rattle.machine.specs.Steps.Spills.{pushAll}
 use Rattle.machine.proofs.BucketWrites.{length-putFront, length-putBack, bucketAt-putBack, bucketAt-putBack-other}
+use Rattle.machine.proofs.ChoiceLaws.{chosen-allowed}
 use Rattle.machine.proofs.Members.{inBack-choice, backList-added}
-use Rattle.machine.proofs.TakeLaws.{pushAt-read}
+use Rattle.machine.proofs.TakeLaws.{taker-fewer, pushAt-read}
 use Rattle.machine.proofs.SpillLaws.{pushAll-one}
 use Rattle.image.specs.Steps.ImageReads.{BackIn, BackRead}
 use Rattle.image.proofs.ImageReadLaws.{whole-alike, front-in, both-accepts, chosen-read, chosen-way}
@@ -145,5 +146,7 @@ module _ {L : Layout} {B f n0 n1 : ℕ} {img : List ℕ} (h : Holding L B f img 
     push-keeps fits k =
         let here : BackRead L B (bucketOf t B f) img = chosen-read (h .read .both) t in
         let ys : List ℕ = inBack L B (bucketOf t B f) img in
-        let list = backList-added L B f v t ys (here .list) (h .read .within .front) k (taker-left t e) in
+        let fewer = rw (h .first, h .second) at (taker-fewer L n0 n1 t e) in
+        let ours = chosen-allowed B f (λ (j : ℕ). length (inBack L B j img)) t fewer in
+        let list = backList-added L B f v t ys (here .list) (h .read .within .front) ours k (taker-left t e) in
         rw (leads .bucket, leads .crumb) (backyard-put fits (here .within) (added (v * 16 + crumbOf t f) ys) list (h .read))
