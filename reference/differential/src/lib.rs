@@ -271,7 +271,7 @@ impl<'a> Follower<'a> {
             };
             for kind in KINDS {
                 let seed = random.bits();
-                let length = 20 + random.below(400) as usize;
+                let length = 20 + random.below(240) as usize;
                 // Named before it runs, so that a difference tells where it came from.
                 self.told(kind, b, length, seed);
             }

@@ -74,9 +74,8 @@ fn vectors(catalogue: &dyn Catalogue, name: &str, path: &str) {
     for difference in &replayed.differences {
         println!("{difference}");
     }
-    let (all, differ) = (replayed.compared, replayed.differences.len());
-    println!("{name}: {all} calls compared, {differ} differ");
-    if differ > 0 {
+    println!("{name}: {}", replayed.summary());
+    if !replayed.differences.is_empty() {
         std::process::exit(1);
     }
 }

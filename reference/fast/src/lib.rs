@@ -102,20 +102,31 @@ struct Behind {
     read1: Read,
 }
 
-/// Reads b0, then b1; the refusal of the first unsound one.
+/// The reads of a front bucket and of all that is behind it.
+#[inline(always)]
+fn reads_with_behind(homes: Homes) -> u64 {
+    3 - homes.coincide() as u64
+}
+
+/// Reads b0, then b1; the refusal of the first unsound one. Where b0 = b1 the one read serves both: no
+/// member there has crumb0, so nothing is found as key0, from whatever slot on.
 #[inline(always)]
 unsafe fn read_behind(image: &[u8], shape: Shape, f: u32, key: u32) -> Result<Behind, u64> {
     let homes = shape.homes(f);
     let (table0, table1) = (shape.fronts() + homes.b0, shape.fronts() + homes.b1);
     let (key0, key1) = (key << 4 | homes.crumb0, key << 4 | homes.crumb1);
-    let valid0 = shape.valid(homes.b0);
-    let Some(read0) = bucket::read_backyard(at(image, table0), valid0, key0) else {
-        return Err(unsound(table0));
+    let read0 = match homes.coincide() {
+        true => None,
+        false => match bucket::read_backyard(at(image, table0), shape.valid(homes.b0), key0) {
+            None => return Err(unsound(table0)),
+            read => read,
+        },
     };
     let valid1 = shape.valid_at(homes.b1, homes.crumb0, homes.b0 / 8);
     let Some(read1) = bucket::read_backyard(at(image, table1), valid1, key1) else {
         return Err(unsound(table1));
     };
+    let read0 = read0.unwrap_or(read1);
     Ok(Behind {
         homes,
         table0,
@@ -365,15 +376,17 @@ pub fn ask(image: &[u8], hash: u64) -> u64 {
             return none(1);
         }
         let homes = shape.homes(g.front);
-        let table = shape.fronts() + homes.b0;
-        let key = g.key << 4 | homes.crumb0;
-        let b = at(image, table);
-        let Some(read) = bucket::read_backyard(b, shape.valid(homes.b0), key) else {
-            return unsound(table);
-        };
-        if bucket::found_backyard(b, read, key) {
-            let copies = bucket::run_backyard(b, read, key);
-            return asked(2, 2, read.below, copies);
+        if !homes.coincide() {
+            let table = shape.fronts() + homes.b0;
+            let key = g.key << 4 | homes.crumb0;
+            let b = at(image, table);
+            let Some(read) = bucket::read_backyard(b, shape.valid(homes.b0), key) else {
+                return unsound(table);
+            };
+            if bucket::found_backyard(b, read, key) {
+                let copies = bucket::run_backyard(b, read, key);
+                return asked(2, 2, read.below, copies);
+            }
         }
         let table = shape.fronts() + homes.b1;
         let key = g.key << 4 | homes.crumb1;
@@ -384,9 +397,9 @@ pub fn ask(image: &[u8], hash: u64) -> u64 {
         };
         if bucket::found_backyard(b, read, key) {
             let copies = bucket::run_backyard(b, read, key);
-            return asked(3, 3, read.below, copies);
+            return asked(reads_with_behind(homes), 3, read.below, copies);
         }
-        none(3)
+        none(reads_with_behind(homes))
     }
 }
 
@@ -413,7 +426,7 @@ pub fn count(image: &[u8], hash: u64) -> u64 {
         let (b0, b1) = (at(image, behind.table0), at(image, behind.table1));
         let first = bucket::copies_backyard(b0, behind.read0, behind.key0);
         let second = bucket::copies_backyard(b1, behind.read1, behind.key1);
-        (copies + first + second) as u64 + (3 << 32)
+        (copies + first + second) as u64 + (reads_with_behind(behind.homes) << 32)
     }
 }
 

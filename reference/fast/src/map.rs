@@ -29,6 +29,23 @@ pub struct Homes {
     pub crumb1: u32,
 }
 
+impl Homes {
+    /// Whether both are one backyard bucket. Its crumb is then that of the second, never that of the
+    /// first.
+    #[inline(always)]
+    pub fn coincide(self) -> bool {
+        self.b0 == self.b1
+    }
+}
+
+/// The choice 0 crumb, as a bit, whose front bucket has b0 = b1 = j; none where there is no such
+/// front bucket. j = e × K + t is below B. With b0 = j, b1 is j / 8 + d0 × K, so d0 is e and j / 8
+/// is t.
+#[inline(always)]
+fn barred(j: u32, e: u32, t: u32) -> u32 {
+    ((t == j / 8) as u32) << e
+}
+
 impl Shape {
     /// The shape of an image of the new form.
     #[inline(always)]
@@ -87,7 +104,11 @@ impl Shape {
     /// The crumbs that are valid in backyard bucket j = e × K + t, a bit each.
     #[inline(always)]
     pub fn valid_at(self, j: u32, e: u32, t: u32) -> u32 {
-        let choice0 = if j < self.b { 0xFF } else { 0 };
+        let choice0 = if j < self.b {
+            0xFF & !barred(j, e, t)
+        } else {
+            0
+        };
         let digits = if e < 8 { (self.b - 8 * t).min(8) } else { 0 };
         choice0 | ((1 << digits) - 1) << 8
     }
@@ -96,7 +117,7 @@ impl Shape {
     pub fn valid(self, j: u32) -> u32 {
         // Where t is not the last, every digit is below B.
         let (e, t) = (j / self.k, j % self.k);
-        if j < self.b && t + 1 < self.k {
+        if j < self.b && t + 1 < self.k && barred(j, e, t) == 0 {
             ALL_CRUMBS
         } else {
             self.valid_at(j, e, t)
@@ -110,6 +131,32 @@ impl Shape {
             8 * j + crumb
         } else {
             64 * t + 8 * (crumb - 8) + e
+        }
+    }
+}
+
+#[cfg(test)]
+mod tests {
+    use super::*;
+
+    /// The crumbs of a bucket that some front bucket uses there: both of each, but where b0 = b1 the
+    /// second alone.
+    #[test]
+    fn valid_crumbs_are_those_in_use() {
+        for b in (1..=130).chain([511, 512, 513, 4096]) {
+            let shape = Shape::of_body(576 * b + 448).expect("a good length");
+            let mut in_use = vec![0; shape.backyards() as usize];
+            for f in 0..shape.fronts() {
+                let homes = shape.homes(f);
+                in_use[homes.b1 as usize] |= 1 << homes.crumb1;
+                if !homes.coincide() {
+                    in_use[homes.b0 as usize] |= 1 << homes.crumb0;
+                }
+            }
+            for (j, &in_use) in (0..).zip(&in_use) {
+                assert_eq!(shape.valid(j), in_use);
+                assert_eq!(shape.valid_at(j, j / shape.k, j % shape.k), in_use);
+            }
         }
     }
 }

@@ -232,11 +232,7 @@ impl Beside {
     fn front(&mut self, shape: Shape) -> u64 {
         match self.random.below(8) {
             0 => self.random.below(shape.fronts()),
-            // b0 = d × K = b1 where b0 is below 8.
-            1 => {
-                let (d, k) = (self.random.below(8), shape.b / 8 + 1);
-                (8 * d * k + d) % shape.fronts()
-            }
+            1 => *self.random.pick(&shape.coinciding()),
             _ if self.hashes.is_empty() => 0,
             _ => Fingerprint::of_hash(*self.random.pick(&self.hashes), shape).front,
         }
@@ -288,7 +284,6 @@ mod tests {
             }
         };
         let mut player = Player::new(1, &mut observer);
-        // Twice, since a member of First is rare where b0 = b1.
         for b in (1..=20).chain(1..=20) {
             for kind in KINDS {
                 histories::play(&mut player, kind, b, 150);

@@ -1,11 +1,14 @@
 //! The branches of the machine that a call takes, by name.
 //!
-//! The stored calls must take every one of `ALL`, of `TAILS` and of `WALKS`, the random rows and
-//! occupancy pages every one of `ROWS` and of `OCCUPANCY`; the stored ones too, but for those of
-//! `BEYOND_THREE`. The random histories must take every one of `TAILS` and of `WALKS`.
+//! The stored calls must take every one of `ALL`, of `TAILS`, of `WALKS` and of `COINCIDING`, the
+//! random rows and occupancy pages every one of `ROWS` and of `OCCUPANCY`; the stored ones too, but
+//! for those of `BEYOND_THREE`. The random histories must take every one of `TAILS`, of `WALKS` and of
+//! `COINCIDING`.
 
+mod coinciding;
 mod tails;
 mod walks;
+pub use coinciding::COINCIDING;
 pub use tails::TAILS;
 pub use walks::WALKS;
 
@@ -16,6 +19,7 @@ use crate::fingerprint::Fingerprint;
 use crate::map::split;
 use crate::shape::{Shape, BACKYARD_SLOTS, BUCKET, FRONT_SLOTS};
 use crate::stored::{row_hashes, Images, Line};
+use coinciding::{sake, unread};
 use std::collections::HashSet;
 use std::ops::Range;
 use tails::{is_wrong, mend};
@@ -28,7 +32,6 @@ pub const ALL: &[&str] = &[
     "insert: 3 in b0",
     "insert: 3 in b1",
     "insert: 4",
-    "insert: 4, b0 = b1",
     "insert: room",
     "insert: room, 28th member",
     "insert: room, members behind",
@@ -38,7 +41,6 @@ pub const ALL: &[&str] = &[
     "insert: second",
     "insert: second, b0 holds 22",
     "insert: tie",
-    "insert: b0 = b1",
     "insert: the new one overflows",
     "insert: equal to the largest",
     "insert: the largest overflows",
@@ -63,7 +65,6 @@ pub const ALL: &[&str] = &[
     "delete: refill, both, n0 > n1",
     "delete: refill, both, tie",
     "delete: refill, both, n0 < n1",
-    "delete: refill, b0 = b1",
     "delete: refill, copies of g behind",
     "delete: refill, smaller than the front's largest",
     "delete: refill, another front bucket's equal beside",
@@ -74,7 +75,6 @@ pub const ALL: &[&str] = &[
     "delete: behind, both, n0 > n1",
     "delete: behind, both, tie",
     "delete: behind, both, n0 < n1",
-    "delete: behind, b0 = b1",
     "delete: behind, another front bucket's equal beside",
     "ask: 1",
     "ask: 3 in front",
@@ -105,9 +105,7 @@ pub const ALL: &[&str] = &[
     "ask: first, several copies, then no member",
     "ask: first, several copies, then no slot",
     "ask: first, copies in second",
-    "ask: first, copies in second, b0 = b1",
     "ask: first, b1 unsound",
-    "ask: first, b0 = b1",
     "ask: second",
     "ask: second, one copy",
     "ask: second, several copies",
@@ -118,9 +116,8 @@ pub const ALL: &[&str] = &[
     "ask: second, several copies, then another tag",
     "ask: second, several copies, then no member",
     "ask: second, several copies, then no slot",
-    "ask: second, b0 = b1",
-    "ask: none, 3 reads",
-    "ask: none, 3 reads, another front bucket's equal behind",
+    "ask: none behind",
+    "ask: none behind, another front bucket's equal there",
     "ask: slot above 0",
     "ask: several copies of tag 0, then no member",
     "count: 1",
@@ -133,7 +130,6 @@ pub const ALL: &[&str] = &[
     "count: equal to the largest, copies behind",
     "count: above the largest",
     "count: copies in first and second",
-    "count: b0 = b1",
     "page: 1",
     "page: 6",
     "page: 6, unsound image",
@@ -201,7 +197,6 @@ pub const ALL: &[&str] = &[
     "merge: front of second alone, overflow",
     "merge: fronts of both, room",
     "merge: fronts of both, overflow",
-    "merge: choice 0 becomes 1 where b0 = b1",
     "unsound: front, zero word",
     "unsound: front, too few ones",
     "unsound: front, too many ones",
@@ -217,6 +212,7 @@ pub const ALL: &[&str] = &[
     "unsound: backyard, unused half",
     "unsound: backyard, byte 63",
     "unsound: backyard, choice 0 invalid",
+    "unsound: backyard, choice 0 where b0 = b1",
     "unsound: backyard, choice 1 invalid, e at least 8",
     "unsound: backyard, choice 1 invalid, past B",
 ];
@@ -255,9 +251,12 @@ pub const ROWS: &[&str] = &[
     "row: several copies in front",
     "row: several copies in first",
     "row: several copies in second",
-    "row: first, b0 = b1",
     "row: second, b0 = b1",
     "row: none, b0 = b1",
+    "row: 1 and 2 reads in one group, b0 = b1",
+    "row: groups of 2 reads, b0 = b1, and of 3",
+    "row: 3, choice 0, own front bucket",
+    "row: 3, choice 0, another front bucket",
     "row: groups with one backyard bucket",
 ];
 
@@ -286,6 +285,8 @@ pub const OCCUPANCY: &[&str] = &[
     "occupancy: 3 in front",
     "occupancy: 3 in b0",
     "occupancy: 3 in b1",
+    "occupancy: 3, choice 0, own front bucket",
+    "occupancy: 3, choice 0, another front bucket",
     "occupancy: 3, the first line",
     "occupancy: 3, after other lines",
     "occupancy: 3 behind, a later front bucket unsound",
@@ -359,7 +360,7 @@ fn behind(image: &[u8], shape: Shape, f: u64) -> Behind {
         None => Vec::new(),
     };
     Behind {
-        same: home0.bucket == home1.bucket,
+        same: shape.coincides(f),
         first: bag_of(&bucket0, home0),
         second: bag_of(&bucket1, home1),
         n0: bucket0.as_ref().map_or(0, Vec::len),
@@ -433,15 +434,9 @@ fn insert(names: &mut Names, image: &[u8], hash: u64) {
     }
     let (n0, n1) = (behind.n0, behind.n1);
     if n0 == 22 && n1 == 22 {
-        return names.add(if behind.same {
-            "insert: 4, b0 = b1"
-        } else {
-            "insert: 4"
-        });
+        return names.add("insert: 4");
     }
-    if behind.same {
-        names.add("insert: b0 = b1");
-    } else if n0 < n1 {
+    if n0 < n1 {
         names.add("insert: first");
         names.add_if(n1 == 22, "insert: first, b1 holds 22");
     } else if n0 == n1 {
@@ -530,7 +525,6 @@ fn delete(names: &mut Names, image: &[u8], hash: u64) {
         (false, true) => names.add(&format!("{way}, from second alone")),
         (true, true) => names.add(&format!("{way}, both, {}", behind.order())),
     }
-    names.add_if(behind.same, &format!("{way}, b0 = b1"));
     names.add_if(
         behind.equal_of_another(wanted),
         &format!("{way}, another front bucket's equal beside"),
@@ -577,25 +571,20 @@ fn ask_behind(names: &mut Names, behind: &Behind, shape: Shape, g: Fingerprint) 
         let x = member(g, shape.first_home(g.front).crumb);
         ask_found(names, "first", bucket0, BACKYARD_SLOTS, x);
         names.add_if(behind.bucket1.is_none(), "ask: first, b1 unsound");
-        names.add_if(behind.same, "ask: first, b0 = b1");
-        if behind.second.contains(&g) {
-            names.add("ask: first, copies in second");
-            names.add_if(behind.same, "ask: first, copies in second, b0 = b1");
-        }
-        return;
+        let more = behind.second.contains(&g);
+        return names.add_if(more, "ask: first, copies in second");
     }
     let Some(bucket1) = &behind.bucket1 else {
         return names.add("ask: 3 in b1");
     };
     if behind.second.contains(&g) {
         let x = member(g, shape.second_home(g.front).crumb);
-        ask_found(names, "second", bucket1, BACKYARD_SLOTS, x);
-        return names.add_if(behind.same, "ask: second, b0 = b1");
+        return ask_found(names, "second", bucket1, BACKYARD_SLOTS, x);
     }
-    names.add("ask: none, 3 reads");
+    names.add("ask: none behind");
     names.add_if(
         behind.equal_of_another(g),
-        "ask: none, 3 reads, another front bucket's equal behind",
+        "ask: none behind, another front bucket's equal there",
     );
 }
 
@@ -681,6 +670,9 @@ fn row(names: &mut Names, image: &[u8], hashes: &[u64]) {
         let table = asks[at].unwrap_err().table.expect("a table number");
         let which = unsound_of(shape, f, table);
         names.add(&format!("row: 3 in {which}"));
+        if let Some(whose) = sake(image, shape, f, table) {
+            names.add(&format!("row: 3, choice 0, {whose}"));
+        }
         names.add_if(at == 0, "row: 3, the first ask");
         names.add(match fronts[0] == f {
             true => "row: 3, in the first group",
@@ -715,6 +707,11 @@ fn row(names: &mut Names, image: &[u8], hashes: &[u64]) {
         groups.push((same[0], greatest));
         from = to;
     }
+    let once = |&(f, reads): &(u64, u64)| shape.coincides(f) && reads == 2;
+    names.add_if(
+        groups.iter().any(once) && groups.iter().any(|&(_, reads)| reads == 3),
+        "row: groups of 2 reads, b0 = b1, and of 3",
+    );
     let read = groups.iter().filter(|(_, reads)| *reads > 1);
     let homes: Vec<u64> = read.map(|&(f, _)| shape.first_home(f).bucket).collect();
     names.add_if(
@@ -757,15 +754,15 @@ fn group(names: &mut Names, shape: Shape, hashes: &[u64], asked: &[Asked]) -> u6
             _ => "row: several copies in second",
         });
     }
-    let f = fingerprint(&hashes[0]).front;
-    if shape.first_home(f).bucket == shape.second_home(f).bucket {
+    if shape.coincides(fingerprint(&hashes[0]).front) {
         for asked in asked.iter().filter(|asked| asked.reads > 1) {
             names.add(match asked.place {
-                Place::First(_) => "row: first, b0 = b1",
-                Place::Second(_) => "row: second, b0 = b1",
-                _ => "row: none, b0 = b1",
+                Place::None => "row: none, b0 = b1",
+                _ => "row: second, b0 = b1",
             });
         }
+        let mixed = reads.contains(&1) && greatest == 2;
+        names.add_if(mixed, "row: 1 and 2 reads in one group, b0 = b1");
     }
     greatest
 }
@@ -802,7 +799,6 @@ fn count(names: &mut Names, image: &[u8], hash: u64) {
     }
     let both = behind.first.contains(&g) && behind.second.contains(&g);
     names.add_if(both, "count: copies in first and second");
-    names.add_if(behind.same, "count: b0 = b1");
 }
 
 fn page(names: &mut Names, image: &[u8], start: u64, length: usize) {
@@ -888,11 +884,12 @@ fn occupancy(names: &mut Names, image: &[u8], page: u64, length: usize) {
     }
     let start = LINES * page;
     let end = fronts.min(start + LINES);
-    let refusal = (start..end).find_map(|f| members(image, shape, f).err().map(|why| (f, why)));
-    if let Some((f, why)) = refusal {
-        let table = why.table.expect("a table number");
+    if let Some((f, table)) = unread(image, shape, start..end) {
         let which = unsound_of(shape, f, table);
         names.add(&format!("occupancy: 3 in {which}"));
+        if let Some(whose) = sake(image, shape, f, table) {
+            names.add(&format!("occupancy: 3, choice 0, {whose}"));
+        }
         names.add(match f == start {
             true => "occupancy: 3, the first line",
             false => "occupancy: 3, after other lines",
@@ -1141,7 +1138,9 @@ fn unsound(names: &mut Names, image: &[u8], shape: Shape, table: u64) {
     let j = table - shape.fronts();
     for slot in 0..n {
         if shape.front_of(j, crumb(slot)).is_none() {
-            return add(if split(crumb(slot)).0 == 0 {
+            return add(if shape.way_back(j, crumb(slot)).is_some() {
+                "choice 0 where b0 = b1"
+            } else if split(crumb(slot)).0 == 0 {
                 "choice 0 invalid"
             } else if j / (shape.b / 8 + 1) >= 8 {
                 "choice 1 invalid, e at least 8"
@@ -1207,11 +1206,6 @@ fn merge(names: &mut Names, sources: [&[u8]; 2], target: &[u8], twice: bool, acc
             (n, m) if n + m <= 28 => "merge: fronts of both, room",
             _ => "merge: fronts of both, overflow",
         });
-        let behind = behind(first, shape, f);
-        names.add_if(
-            behind.same && !behind.first.is_empty(),
-            "merge: choice 0 becomes 1 where b0 = b1",
-        );
     }
 }
 
@@ -1234,6 +1228,7 @@ pub fn of(images: &Images, line: Line, number: u64) -> Vec<String> {
     let mut names = Names::default();
     tails::of(&mut names, images, line, number);
     walks::of(&mut names, images, line, number);
+    coinciding::of(&mut names, images, line, number);
     let is_row_or_page = matches!(line, Line::Row { .. } | Line::Occupancy { .. });
     if number < 11 || is_row_or_page {
         on_buckets(&mut names, images, line, number == 0);

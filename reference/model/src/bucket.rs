@@ -67,6 +67,21 @@ pub fn decode_front(bytes: &Bytes) -> Option<Vec<Member>> {
 
 /// The members of backyard bucket j, or nothing where it is unsound.
 pub fn decode_backyard(bytes: &Bytes, j: u64, shape: Shape) -> Option<Vec<Member>> {
+    let members = decode_any_crumbs(bytes)?;
+    let valid = members.iter().all(|x| shape.front_of(j, x.crumb).is_some());
+    valid.then_some(members)
+}
+
+/// Whether backyard bucket j is unsound for this alone: a choice 0 crumb whose front bucket has
+/// b0 = b1.
+pub fn carries_choice_0(bytes: &Bytes, j: u64, shape: Shape) -> bool {
+    let was_valid = |x: &Member| shape.way_back(j, x.crumb).is_some();
+    let before = decode_any_crumbs(bytes).filter(|members| members.iter().all(was_valid));
+    before.is_some() && decode_backyard(bytes, j, shape).is_none()
+}
+
+/// The members of a backyard bucket that is sound as far as its crumbs need not be valid.
+fn decode_any_crumbs(bytes: &Bytes) -> Option<Vec<Member>> {
     let minis = minis_of(bytes)?;
     if minis.len() > BACKYARD_SLOTS {
         return None;
@@ -77,9 +92,8 @@ pub fn decode_backyard(bytes: &Bytes, j: u64, shape: Shape) -> Option<Vec<Member
         crumb: crumb_of(bytes, slot),
     };
     let members: Vec<Member> = minis.iter().enumerate().map(member).collect();
-    let valid = members.iter().all(|x| shape.front_of(j, x.crumb).is_some());
     // Unused bytes and halves are 0 exactly when the members give these bytes again.
-    (valid && ascends(&members) && encode_backyard(&members) == *bytes).then_some(members)
+    (ascends(&members) && encode_backyard(&members) == *bytes).then_some(members)
 }
 
 /// The word and the tags of these members, everything else 0.
@@ -157,10 +171,38 @@ mod tests {
 
     #[test]
     fn a_backyard_bucket_holds_22() {
-        let shape = Shape { b: 1 };
+        let shape = Shape { b: 2 };
         let full = encode_backyard(&[one(7); 22]);
-        assert_eq!(decode_backyard(&full, 0, shape), Some(vec![one(7); 22]));
+        assert_eq!(decode_backyard(&full, 1, shape), Some(vec![one(7); 22]));
         let over = encode_front(&[one(7); 23]);
-        assert_eq!(decode_backyard(&over, 0, shape), None);
+        assert_eq!(decode_backyard(&over, 1, shape), None);
+    }
+
+    /// With B = 3, crumb 1 in backyard bucket 1 is that of front bucket 9; in bucket 0 that of 1.
+    #[test]
+    fn choice_0_where_the_backyards_coincide() {
+        let shape = Shape { b: 3 };
+        let with = |crumb| Member { crumb, ..one(7) };
+        let told = |j, members: &[Member]| {
+            let bytes = encode_backyard(members);
+            let sound = decode_backyard(&bytes, j, shape).is_some();
+            (sound, carries_choice_0(&bytes, j, shape))
+        };
+        let (sound, unsound) = ((true, false), (false, false));
+        for others in [vec![], vec![with(0), with(2), with(9)]] {
+            let carrying = |crumb| {
+                let mut members = [&others[..], &[with(crumb)]].concat();
+                members.sort();
+                members
+            };
+            assert_eq!(told(1, &others), sound);
+            assert_eq!(told(1, &carrying(1)), (false, true));
+            assert_eq!(told(0, &carrying(1)).0, others.is_empty());
+            assert_eq!(told(1, &carrying(5)), sound);
+            // Choice 1, past B; then a bucket that descends as well.
+            assert_eq!(told(1, &carrying(11)), unsound);
+            assert_eq!(told(1, &[with(2), with(1)]), unsound);
+        }
+        assert_eq!(told(8, &[with(1)]), unsound);
     }
 }

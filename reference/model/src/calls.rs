@@ -135,6 +135,13 @@ pub fn members_at(image: &[u8], shape: Shape, table: u64) -> Option<u64> {
     Some(members as u64)
 }
 
+/// Whether the backyard bucket with this table number is unsound for this alone: a choice 0 crumb
+/// whose front bucket has b0 = b1.
+pub fn carries_choice_0(image: &[u8], shape: Shape, table: u64) -> bool {
+    let backyard = table.checked_sub(shape.fronts());
+    backyard.is_some_and(|j| bucket::carries_choice_0(bytes_at(image, table), j, shape))
+}
+
 /// A fingerprint as a bucket holds it.
 pub fn member(g: Fingerprint, crumb: u64) -> Member {
     Member {
@@ -343,6 +350,16 @@ fn ended(reads: u64, place: Place, bag: &[Fingerprint], g: Fingerprint) -> Asked
     }
 }
 
+/// The reads of a call that has read Front(f) and all that is behind it: a bucket that is b0 and b1
+/// is not read a second time.
+fn reads_with_behind(shape: Shape, f: u64) -> u64 {
+    match shape.coincides(f) {
+        true => 2,
+        false => 3,
+    }
+}
+
+/// Front, then b0, then b1; where b0 = b1 the one read tells of both.
 pub fn ask(image: &[u8], hash: u64) -> Result<Asked, Refusal> {
     let (shape, _) = opened(image)?;
     let g = Fingerprint::of_hash(hash, shape);
@@ -367,7 +384,7 @@ pub fn ask(image: &[u8], hash: u64) -> Result<Asked, Refusal> {
         Some(slot) => Place::Second(slot),
         None => Place::None,
     };
-    Ok(ended(3, place, &second, g))
+    Ok(ended(reads_with_behind(shape, f), place, &second, g))
 }
 
 /// Lone asks. A group is the neighbours with the same front bucket, and counts as its greatest
@@ -408,7 +425,7 @@ pub fn count(image: &[u8], hash: u64) -> Result<Counted, Refusal> {
     let (first, second) = read_behind(image, shape, f)?;
     Ok(Counted {
         copies: copies(&front, g) + copies(&first, g) + copies(&second, g),
-        reads: 3,
+        reads: reads_with_behind(shape, f),
     })
 }
 
@@ -663,7 +680,95 @@ mod tests {
         assert_eq!(total(&[(5, 0)]), 1);
         assert_eq!(total(&[(13, 0), (13, 28), (13, 29)]), 3);
         assert_eq!(total(&[(13, 29), (13, 0)]), 2);
-        assert_eq!(total(&[(5, 0), (13, 29), (13, 0), (18, 0), (18, 40)]), 6);
+        // Of 18, tag 28 is in Second and 40 nowhere, with 2 reads either way.
+        assert_eq!(total(&[(18, 0), (18, 28), (18, 40)]), 2);
+        assert_eq!(total(&[(5, 0), (13, 29), (13, 0), (18, 0), (18, 40)]), 5);
+        assert_eq!(total(&[(9, 0), (13, 28), (18, 28)]), 6);
+    }
+
+    /// A front bucket with b0 = b1 takes 50 members. Those behind it are all in Second, at 2 reads.
+    #[test]
+    fn where_the_backyards_coincide() {
+        for (b, f) in [(1, 0), (3, 0), (3, 9), (3, 18), (9, 51), (48, 57)] {
+            let shape = Shape { b };
+            let mut image = fresh_image(b);
+            let hash = |tag| {
+                let g = Fingerprint {
+                    front: f,
+                    mini: 3,
+                    tag,
+                };
+                hash_of(g, shape, &mut Random::new(tag))
+            };
+            let bucket = shape.first_home(f).bucket;
+            for tag in 0..50 {
+                let behind = (1 + bucket) * (tag >= 28) as u64;
+                assert_eq!(insert(&mut image, hash(tag)), Ok(behind));
+            }
+            assert_eq!(change(&image, insert, hash(50)), 4);
+            for tag in 0..60 {
+                let (place, reads) = match tag {
+                    0..28 => (Place::Front(tag), 1),
+                    28..50 => (Place::Second(tag - 28), 2),
+                    _ => (Place::None, 2),
+                };
+                let copies = (tag < 50) as u64;
+                let asked = Asked {
+                    reads,
+                    place,
+                    copies,
+                };
+                assert_eq!(ask(&image, hash(tag)), Ok(asked));
+                // The largest in front may have copies behind.
+                let reads = if tag < 27 { 1 } else { 2 };
+                assert_eq!(count(&image, hash(tag)), Ok(Counted { copies, reads }));
+            }
+            assert_eq!(check(&image), Ok(()));
+        }
+    }
+
+    /// A choice 0 crumb where b0 = b1 makes the bucket unsound for every call that reads it, also
+    /// for 13's sake.
+    #[test]
+    fn choice_0_where_the_backyards_coincide() {
+        let mut image = image();
+        for tag in 0..30 {
+            insert(&mut image, hash(9, tag)).unwrap();
+        }
+        let table = SHAPE.table_number(1);
+        let mut members = read_backyard(&image, SHAPE, 1).unwrap();
+        let own = members.iter_mut().find(|x| x.crumb == 9);
+        own.expect("a member behind 9").crumb = 1;
+        members.sort();
+        write_at(&mut image, table, bucket::encode_backyard(&members));
+        let refusal = Refusal {
+            number: 3,
+            table: Some(table),
+        };
+        for f in [9, 13] {
+            for tag in [39, 50] {
+                assert_eq!(ask(&image, hash(f, tag)), Err(refusal));
+                assert_eq!(count(&image, hash(f, tag)), Err(refusal));
+                assert_eq!(row(&image, &[hash(5, 0), hash(f, tag)]), Err(refusal));
+            }
+            for tag in [0, 39] {
+                assert_eq!(insert(&mut image.clone(), hash(f, tag)), Err(refusal));
+                assert_eq!(delete(&mut image.clone(), hash(f, tag)), Err(refusal));
+            }
+            assert_eq!(page(&image, f, 110, &mut [0; 99]), Err(refusal));
+            assert!(ask(&image, hash(f, 0)).is_ok());
+        }
+        assert_eq!(occupancy(&image, 0, &mut [0; 1008]), Err(refusal));
+        assert_eq!(check(&image), Err(refusal));
+        let (old, mut target) = (&image[..SHAPE.old_length()], fresh_image(3));
+        assert_eq!(attach(old, &mut target), Err(refusal));
+        for (first, second) in [(&image, &fresh_image(3)), (&fresh_image(3), &image)] {
+            assert_eq!(merge(first, second, &mut target), Err(refusal));
+        }
+        assert_eq!(target, fresh_image(3));
+        assert_eq!(moved(detach, &image, 2176), (3, Some(table)));
+        // 18 does not read it.
+        assert!(ask(&image, hash(18, 39)).is_ok());
     }
 
     #[test]
@@ -989,7 +1094,7 @@ mod tests {
         let one = [Member {
             mini: 0,
             tag: 0,
-            crumb: 0,
+            crumb: 1,
         }];
         write_at(&mut early, 24, bucket::encode_backyard(&one));
         let wrong = with(good.clone(), 1, 0);

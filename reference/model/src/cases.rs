@@ -1,7 +1,9 @@
 //! The calls that are stored for the program `trial`: document 01's cases one by one, then
 //! short random histories, then rows of three asks, then occupancy pages, then asks where copies
-//! stand, then tails and moves, then walks, then the sixteen crumbs. Always the same lines.
+//! stand, then tails and moves, then walks, then the sixteen crumbs, then front buckets whose two
+//! backyard buckets coincide. Always the same lines.
 
+mod coinciding;
 mod tails;
 mod walks;
 
@@ -173,7 +175,10 @@ fn larger(p: &mut Player) {
         p.fresh(0, b);
         let shape = Shape { b };
         // The two backyard buckets start uneven.
-        let home = shape.first_home(f);
+        let home = match shape.coincides(f) {
+            true => shape.second_home(f),
+            false => shape.first_home(f),
+        };
         p.put_front(0, f, full_front());
         p.put_backyard(0, home.bucket, overflow(20, home.crumb));
         p.check(0);
@@ -259,10 +264,10 @@ fn deletes(p: &mut Player) {
             }
         }
     }
-    // b0 = b1: a tie takes choice 1.
+    // b0 = b1.
     p.fresh(0, 3);
     p.put_front(0, 9, full_front());
-    p.put_backyard(0, 1, vec![value(400, 1), value(400, 9), value(410, 1)]);
+    p.put_backyard(0, 1, vec![value(400, 9), value(400, 9), value(410, 9)]);
     p.check(0);
     for tag in [400, 370, 410, 410, 100] {
         p.look(0, g(9, 5, tag));
@@ -502,9 +507,9 @@ fn merges(p: &mut Player) {
     p.put_backyard(0, 5, overflow(9, 9));
     p.put_front(1, 14, some(28));
     p.put_backyard(1, 1, overflow(7, 6));
-    // b0 = b1 with choice 0, as another writer may have left it.
+    // b0 = b1.
     p.put_front(0, 9, some(28));
-    p.put_backyard(0, 1, both(overflow(4, 5), overflow(3, 1)));
+    p.put_backyard(0, 1, both(overflow(4, 5), overflow(3, 9)));
     p.check(0);
     p.check(1);
     for (x, y) in [(0, 1), (1, 0), (0, 0), (1, 1)] {
@@ -601,8 +606,8 @@ fn ask_row(p: &mut Player, half: u64, mini: u64, tag: u64, halves: i64, minis: i
 }
 
 /// Rows of three asks, all with tag 400. Front buckets 9, 13 and 14 are full with mini-buckets 0
-/// to 27; behind them mini-bucket 28 is in First, 29 in Second, and of 13 also 30 and 31. Front
-/// bucket 12 has room.
+/// to 27; behind them mini-bucket 28 is in First, 29 in Second, and of 13 also 30 and 31. Behind 9
+/// both are in Second. Front bucket 12 has room.
 fn rows(p: &mut Player) {
     let tag = 400;
     let members = |minis: std::ops::Range<u64>| minis.map(|mini| member(mini, tag, 0)).collect();
@@ -612,7 +617,7 @@ fn rows(p: &mut Player) {
         p.put_front(1, f, members(0..28));
     }
     // b0 of all four and b1 of 9 is 1; b1 of 13 is 5, b1 of 14 is 6.
-    let first = [(28, 1), (29, 9), (28, 5), (30, 5), (28, 6)];
+    let first = [(28, 9), (29, 9), (28, 5), (30, 5), (28, 6)];
     let first = first.map(|(mini, crumb)| member(mini, tag, crumb));
     p.put_backyard(1, 1, first.to_vec());
     p.put_backyard(1, 5, vec![member(29, tag, 9), member(31, tag, 9)]);
@@ -696,10 +701,10 @@ fn occupancy_pages(p: &mut Player) {
         p.put_front(1, f, some(28));
     }
     // Behind 4 there are members that its line does not count. 11 has First alone, 12 Second
-    // alone, 13 both, 15 none; 9 has b0 = b1 and both choices.
+    // alone, 13 both, 15 none; 9 has b0 = b1.
     p.put_backyard(1, 0, overflow(3, 4));
-    let nine = both(overflow(1, 1), overflow(1, 9));
-    p.put_backyard(1, 1, both(nine, both(overflow(4, 3), overflow(9, 5))));
+    let (nine, others) = (overflow(2, 9), both(overflow(4, 3), overflow(9, 5)));
+    p.put_backyard(1, 1, both(nine, others));
     p.put_backyard(1, 4, both(overflow(2, 8), overflow(6, 9)));
     p.put_backyard(1, 5, both(overflow(1, 8), overflow(5, 9)));
     p.copy(1, 0);
@@ -919,6 +924,7 @@ pub fn input() -> String {
     tails::tails(p);
     walks::walks(p);
     crumbs(p);
+    coinciding::coinciding(p);
     text
 }
 
@@ -947,6 +953,21 @@ pub fn frames() -> String {
             emptied += &line(3, g(f, 7 * n % 36, n % 2 * 300));
         }
     }
+    // Front bucket 9, which has b0 = b1, until it is full: asks of the newest, which is behind from the
+    // 29th on, and of one above it.
+    let mut coinciding = String::new();
+    for n in 0..51 {
+        coinciding += &line(1, g(9, 20, 3 * n));
+        if [26, 27, 28, 29, 49, 50].contains(&n) {
+            coinciding += &line(3, g(9, 20, 3 * n));
+            coinciding += &line(3, g(9, 20, 3 * n + 1));
+            coinciding += &line(4, g(9, 20, 3 * n));
+        }
+    }
+    for n in [0, 49, 40, 1] {
+        coinciding += &line(2, g(9, 20, 3 * n));
+        coinciding += &line(3, g(9, 20, 3 * n));
+    }
     let example = "\
 018000000040000007
 018000000040000007
@@ -963,7 +984,16 @@ pub fn frames() -> String {
 ";
     let last = "04FFFFFFFFFFFFFFFF\n01FFFFFFFFFFFFFFFF\n04FFFFFFFFFFFFFFFF";
     [
-        example, malformed, list, &filled, list, &emptied, list, last,
+        example,
+        malformed,
+        list,
+        &filled,
+        list,
+        &emptied,
+        list,
+        &coinciding,
+        list,
+        last,
     ]
     .concat()
 }
@@ -973,11 +1003,12 @@ mod tests {
     use super::*;
     use crate::branches;
     use crate::catalogue::Model;
+    use crate::program;
 
     #[test]
     fn every_branch_and_every_number() {
         let input = input();
-        assert!(input.len() < 400_000, "{} bytes", input.len());
+        assert!(input.len() < 460_000, "{} bytes", input.len());
         let mut images = Images::default();
         let mut met = BTreeSet::new();
         let mut numbers = BTreeSet::new();
@@ -1001,7 +1032,7 @@ mod tests {
         let rows = branches::ROWS.iter();
         let rows = rows.filter(|name| !branches::BEYOND_THREE.contains(name));
         let all = branches::ALL.iter().chain(branches::TAILS);
-        let all = all.chain(branches::WALKS);
+        let all = all.chain(branches::WALKS).chain(branches::COINCIDING);
         let all = all.chain(rows).chain(branches::OCCUPANCY);
         let all: BTreeSet<String> = all.map(|name| name.to_string()).collect();
         let missing: Vec<&String> = all.difference(&met).collect();
@@ -1009,5 +1040,17 @@ mod tests {
         assert!(missing.is_empty(), "missing: {missing:#?}");
         assert!(unknown.is_empty(), "not named: {unknown:#?}");
         assert_eq!(numbers, (0..=8).chain(10..=14).collect());
+    }
+
+    /// The small program's asks: reads + 16 × place, with 2 reads where b0 = b1.
+    #[test]
+    fn every_ask_of_the_small_program() {
+        let output = program::run(frames().as_bytes());
+        let asks = output.lines().filter_map(|line| line.strip_prefix("0300"));
+        let values: BTreeSet<u64> = asks
+            .map(|value| u64::from_str_radix(value, 16).expect("16 hex digits"))
+            .collect();
+        let expected = [0x01, 0x02, 0x03, 0x11, 0x22, 0x32, 0x33];
+        assert_eq!(values, expected.into_iter().collect());
     }
 }

@@ -1,8 +1,9 @@
 //! Random histories: calls on images that are whole, damaged, or sound but never checked, with good
-//! tails and bad ones, moves between the forms, and walks with other calls between their pages.
+//! tails and bad ones, moves between the forms, walks with other calls between their pages, and front
+//! buckets whose two backyard buckets coincide.
 
 use crate::bucket::Member;
-use crate::calls::{inserted, members};
+use crate::calls::{inserted, members, read_backyard};
 use crate::fingerprint::Fingerprint;
 use crate::prepare::{members_in, Player};
 use crate::random::Random;
@@ -29,9 +30,12 @@ pub enum Kind {
     Moves,
     /// Walks by turns, with changes and other calls between their pages.
     Walks,
+    /// Front buckets with b0 = b1 and others that share their backyard bucket, filled; choice 0 crumbs
+    /// put there.
+    Coinciding,
 }
 
-pub const KINDS: [Kind; 9] = [
+pub const KINDS: [Kind; 10] = [
     Kind::Plain,
     Kind::Merging,
     Kind::Damaged,
@@ -41,6 +45,7 @@ pub const KINDS: [Kind; 9] = [
     Kind::Tails,
     Kind::Moves,
     Kind::Walks,
+    Kind::Coinciding,
 ];
 
 /// The few front buckets and (mini-bucket, tag) pairs that a history keeps to, so that copies,
@@ -69,8 +74,7 @@ impl Pool {
             });
         }
         if random.one_in(4) {
-            // Front bucket 9 × d has b0 = b1 where it exists and B is small.
-            fronts.push(9 * random.below(8) % shape.fronts());
+            fronts.push(*random.pick(&shape.coinciding()));
         }
         let mut values = vec![(0, 0), (35, 65535)];
         for _ in 0..3 + random.below(60) {
@@ -90,6 +94,25 @@ impl Pool {
             shape,
             fronts,
             values,
+        }
+    }
+
+    /// One front bucket with b0 = b1, some that share its backyard bucket, and maybe another.
+    fn coinciding(shape: Shape, random: &mut Random) -> Pool {
+        let coinciding = shape.coinciding();
+        let f = *random.pick(&coinciding);
+        let mut fronts = vec![f, f];
+        for _ in 0..1 + random.below(3) {
+            let crumb = random.below(16);
+            let sharing = shape.front_of(shape.second_home(f).bucket, crumb);
+            fronts.push(sharing.unwrap_or(f));
+        }
+        if random.one_in(3) {
+            fronts.push(*random.pick(&coinciding));
+        }
+        Pool {
+            fronts,
+            ..Pool::new(shape, random)
         }
     }
 
@@ -544,6 +567,89 @@ fn refused_change(player: &mut Player, pool: &Pool) {
     };
 }
 
+/// Image 0 with front buckets of b0 = b1 filled. Again and again one of these gets a choice 0 crumb,
+/// for calls, merges and moves; image 1 stays sound, and image 2 is a target.
+fn coinciding(player: &mut Player, pool: &Pool, how_many: usize) {
+    for _ in 0..2 {
+        fill(player, 0, pool);
+        calls(player, 0, pool, how_many / 8);
+    }
+    for _ in 0..how_many / 40 {
+        player.copy(0, 1);
+        if player.random.one_in(3) {
+            scramble(player, 0, pool);
+        }
+        carry_choice_0(player, 0, pool);
+        around(player, pool);
+        player.check(0);
+        merged_with_choice_0(player, pool);
+        moved_with_choice_0(player, pool);
+        player.copy(1, 0);
+        around(player, pool);
+        delete_a_member(player, 0, pool);
+        calls(player, 0, pool, 4);
+    }
+}
+
+/// Gives one member behind the pool's first front bucket, which has b0 = b1, a choice 0 crumb: mostly
+/// one of its own. Nothing else makes the bucket unsound.
+fn carry_choice_0(player: &mut Player, x: usize, pool: &Pool) {
+    let (f, shape) = (pool.fronts[0], pool.shape);
+    let (first, second) = (shape.first_home(f), shape.second_home(f));
+    let Ok(mut there) = read_backyard(&player.images.image[x], shape, first.bucket) else {
+        return;
+    };
+    let is_own = |&at: &usize| there[at].crumb == second.crumb;
+    let own: Vec<usize> = (0..there.len()).filter(is_own).collect();
+    let random = &mut player.random;
+    let at = match own[..] {
+        [] if there.is_empty() => return,
+        [] => random.below(there.len() as u64) as usize,
+        _ if random.one_in(5) => random.below(there.len() as u64) as usize,
+        _ => *random.pick(&own),
+    };
+    there[at].crumb = first.crumb;
+    player.put_backyard(x, first.bucket, there);
+}
+
+/// Calls on every front bucket of the pool: members in front and behind, and others.
+fn around(player: &mut Player, pool: &Pool) {
+    for &front in &pool.fronts {
+        let (mini, tag) = *player.random.pick(&pool.values);
+        for (mini, tag) in [(mini, tag), (35, 65535)] {
+            let g = Fingerprint { front, mini, tag };
+            player.look(0, g);
+            match player.random.below(3) {
+                0 => player.insert(0, g),
+                1 => player.delete(0, g),
+                _ => 0,
+            };
+        }
+        page(player, 0, pool, front);
+    }
+}
+
+/// Merges of image 0 with image 1 and with itself, and the calls go on with what they leave.
+fn merged_with_choice_0(player: &mut Player, pool: &Pool) {
+    player.new_image(2, pool.shape.length());
+    for (x, y) in [(0, 1), (1, 0), (1, 1)] {
+        player.merge(x, y, 2);
+    }
+    calls(player, 2, pool, 3);
+}
+
+/// Image 0 to the old form; then image 1, and back from there, mostly with a choice 0 crumb.
+fn moved_with_choice_0(player: &mut Player, pool: &Pool) {
+    player.new_image(2, pool.shape.old_length());
+    player.detach(0, 2);
+    player.detach(1, 2);
+    if !player.random.one_in(3) {
+        carry_choice_0(player, 2, pool);
+    }
+    player.attach(2, 0);
+    player.check(0);
+}
+
 fn merges(player: &mut Player, pool: &Pool) {
     for (x, y, z) in [(0, 1, 2), (0, 0, 2), (1, 0, 2)] {
         player.merge(x, y, z);
@@ -584,7 +690,10 @@ fn lengths(player: &mut Player, pool: &Pool, how_many: usize) {
 /// Plays a history of about so many calls on images of one shape.
 pub fn play(player: &mut Player, kind: Kind, b: u64, how_many: usize) {
     let shape = Shape { b };
-    let pool = Pool::new(shape, &mut player.random);
+    let pool = match kind {
+        Kind::Coinciding => Pool::coinciding(shape, &mut player.random),
+        _ => Pool::new(shape, &mut player.random),
+    };
     player.fresh(0, b);
     match kind {
         Kind::Plain => {
@@ -655,6 +764,7 @@ pub fn play(player: &mut Player, kind: Kind, b: u64, how_many: usize) {
         Kind::Tails => tails(player, &pool, how_many),
         Kind::Moves => moves(player, &pool, how_many),
         Kind::Walks => walks(player, &pool, how_many),
+        Kind::Coinciding => coinciding(player, &pool, how_many),
     }
 }
 
@@ -666,7 +776,7 @@ mod tests {
     use std::collections::BTreeSet;
 
     #[test]
-    fn every_branch_of_tails_and_walks() {
+    fn every_branch_of_tails_walks_and_coinciding() {
         let mut met = BTreeSet::new();
         let mut numbers = BTreeSet::new();
         let mut before = Images::default();
@@ -684,6 +794,7 @@ mod tests {
             }
         }
         let all = branches::TAILS.iter().chain(branches::WALKS);
+        let all = all.chain(branches::COINCIDING);
         let all = all.map(|name| name.to_string());
         let missing: Vec<String> = all.filter(|name| !met.contains(name)).collect();
         assert!(missing.is_empty(), "missing: {missing:#?}");

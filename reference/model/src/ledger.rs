@@ -245,7 +245,7 @@ mod tests {
             ledger.tell(line, answer, images);
         };
         let mut player = Player::new(3, &mut observer);
-        for round in 0..20 {
+        for round in 0..30 {
             for kind in KINDS {
                 play(&mut player, kind, [1, 2, 3, 8, 20][round % 5], 400);
             }

@@ -26,13 +26,18 @@
 //! The images of the stages before 14 are old ones. They are replayed as images with a tail: `new`
 //! makes 64 bytes more, every call finds a good tail behind each image that it is lent, and digests
 //! are those of the bytes before the tail. A page of the stages before 15 brings the change count of
-//! its image.
+//! its image. The stages before 17 are brought to the text of C-17 where b0 = b1: asks and counts that
+//! tell 3 reads there have 2, calls that meet a choice 0 crumb there are refused with 3, and calls on
+//! images that such a call would have changed are left out.
+
+mod coinciding;
 
 use crate::catalogue::{Catalogue, Entry};
 use crate::prepare::members_in;
 use crate::sha256::sha256;
 use crate::shape::{Shape, TAIL};
 use crate::tail::Tail;
+use coinciding::{reads_told, refused_now, total_told, Lost};
 use std::collections::HashMap;
 
 type Images = HashMap<String, Vec<u8>>;
@@ -45,9 +50,29 @@ const WITH_TAILS: u64 = 14;
 const WITH_COUNTS: u64 = 15;
 
 /// What a replay found: the calls compared, and a text for each that differs.
+#[derive(Default)]
 pub struct Replayed {
     pub compared: u64,
+    /// Calls among them that were told before C-17 and are refused with 3 since.
+    pub refused_now: u64,
+    /// Calls that are not compared, since an image is not known after one of these.
+    pub left_out: u64,
     pub differences: Vec<String>,
+}
+
+impl Replayed {
+    /// What was found, without the differences: a line, and one more on what was brought to C-17.
+    pub fn summary(&self) -> String {
+        let (all, differ) = (self.compared, self.differences.len());
+        let summary = format!("{all} calls compared, {differ} differ");
+        match (self.refused_now, self.left_out) {
+            (0, 0) => summary,
+            (now, left) => {
+                let refused = format!("{now} of them refused with 3 since C-17");
+                format!("{summary}\n({refused}, {left} more left out)")
+            }
+        }
+    }
 }
 
 fn number(word: &str) -> u64 {
@@ -93,10 +118,17 @@ fn asked(stage: u64, [reads, place, slot, copies]: [u64; 4], joined_by: &str) ->
     told.join(joined_by)
 }
 
-/// The answer of a lone ask.
-fn lone(stage: u64, value: u64) -> String {
-    let told = [value % 16, value / 16 % 16, value / 256 % 256, value >> 16];
+/// The answer of a lone ask for this hash in an image of so many bytes.
+fn lone(stage: u64, length: usize, hash: u64, value: u64) -> String {
+    let reads = reads_told(stage, length, hash, value % 16);
+    let told = [reads, value / 16 % 16, value / 256 % 256, value >> 16];
     format!(" {}", asked(stage, told, " "))
+}
+
+/// The copies and the reads of a count.
+fn counted(stage: u64, length: usize, hash: u64, value: u64) -> String {
+    let reads = reads_told(stage, length, hash, value >> 32);
+    format!(" {} {reads}", value % (1 << 32))
 }
 
 /// The entries that ask for these hashes; entry i holds 2^32 - 1 - i in its other fields.
@@ -112,12 +144,15 @@ fn entries(hashes: &str) -> Vec<Entry> {
     hashes.zip((0..=u32::MAX).rev()).map(entry).collect()
 }
 
-/// The total and the answers of a row.
-fn rowed(stage: u64, total: u64, row: &[Entry]) -> String {
+/// The total and the answers of a row on an image of so many bytes.
+fn rowed(stage: u64, length: usize, total: u64, row: &[Entry]) -> String {
     let answer = |entry: &Entry| {
-        let told = [entry.reads, entry.place, entry.slot, entry.copies];
-        asked(stage, told.map(u64::from), "/")
+        let [reads, place, slot, copies] =
+            [entry.reads, entry.place, entry.slot, entry.copies].map(u64::from);
+        let reads = reads_told(stage, length, entry.hash, reads);
+        asked(stage, [reads, place, slot, copies], "/")
     };
+    let total = total_told(stage, length, total, row);
     let answers: Vec<String> = row.iter().map(answer).collect();
     let entries = match row {
         [] => "-".to_string(),
@@ -239,6 +274,7 @@ fn nothing(_: u64) -> String {
 /// A call on one image alone.
 fn on_image(catalogue: &dyn Catalogue, image: &mut [u8], stage: u64, words: &[&str]) -> String {
     let answer = |value| format!(" {value}");
+    let length = image.len();
     match words[0] {
         "new" => "-".to_string(),
         "poke" => {
@@ -250,10 +286,18 @@ fn on_image(catalogue: &dyn Catalogue, image: &mut [u8], stage: u64, words: &[&s
         "check" => text(catalogue.check(image), nothing),
         "insert" => text(catalogue.insert(image, hash(words[2])), answer),
         "delete" => text(catalogue.delete(image, hash(words[2])), answer),
-        "ask" => text(catalogue.ask(image, hash(words[2])), |value| {
-            lone(stage, value)
-        }),
-        "count" => text(catalogue.count(image, hash(words[2])), pair),
+        "ask" => {
+            let hash = hash(words[2]);
+            text(catalogue.ask(image, hash), |value| {
+                lone(stage, length, hash, value)
+            })
+        }
+        "count" => {
+            let hash = hash(words[2]);
+            text(catalogue.count(image, hash), |value| {
+                counted(stage, length, hash, value)
+            })
+        }
         other => panic!("no such call: {other}"),
     }
 }
@@ -264,7 +308,7 @@ fn row(catalogue: &dyn Catalogue, image: &[u8], stage: u64, hashes: &str) -> Opt
     let mut row = before.clone();
     let answer = catalogue.row(image, &mut row)?;
     Some(match kept(answer, &before, &row) {
-        true => text(answer, |total| rowed(stage, total, &row)),
+        true => text(answer, |total| rowed(stage, image.len(), total, &row)),
         false => "entries not kept".to_string(),
     })
 }
@@ -305,28 +349,37 @@ pub fn output_before(length: usize) -> Vec<u8> {
 /// Replays a whole text.
 pub fn replay(catalogue: &dyn Catalogue, lines: &str) -> Replayed {
     let (mut images, mut stage) = (Images::new(), 0);
-    let mut compared = 0;
-    let mut differences = Vec::new();
+    let mut lost = Lost::default();
+    let mut replayed = Replayed::default();
     for (at, line) in lines.lines().enumerate() {
         if line.starts_with('#') {
             images.clear();
+            lost = Lost::default();
             stage = stage_of(line);
             continue;
         }
-        let (call, expected) = line.split_once(" = ").expect("CALL = RESULT");
+        let (call, told) = line.split_once(" = ").expect("CALL = RESULT");
+        if !lost.follows(call, told) {
+            replayed.left_out += 1;
+            continue;
+        }
+        let now = refused_now(&images, stage, call);
         let Some(got) = perform(catalogue, &mut images, stage, call) else {
             continue;
         };
-        compared += 1;
+        if let Some(now) = &now {
+            lost.tell(call, told, now);
+            replayed.refused_now += (now != told) as u64;
+        }
+        let expected = now.as_deref().unwrap_or(told);
+        replayed.compared += 1;
         if got != expected {
             let at = at + 1;
-            differences.push(format!("line {at}: {call}\n  {expected}\n  got {got}"));
+            let difference = format!("line {at}: {call}\n  {expected}\n  got {got}");
+            replayed.differences.push(difference);
         }
     }
-    Replayed {
-        compared,
-        differences,
-    }
+    replayed
 }
 
 #[cfg(test)]

@@ -9,9 +9,8 @@ fn main() {
     for difference in &replayed.differences {
         println!("{difference}");
     }
-    let differ = replayed.differences.len();
-    println!("{} calls compared, {differ} differ", replayed.compared);
-    if differ > 0 {
+    println!("{}", replayed.summary());
+    if !replayed.differences.is_empty() {
         std::process::exit(1);
     }
 }
