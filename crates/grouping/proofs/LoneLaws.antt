@@ -1,5 +1,5 @@
 -- A lone ask by what was read and found, for any layout: settled by its front bucket (`near-front`, `near-none`, `near-shared`), or behind it by what
--- is read and found in b0 and then in b1 (`first-found`, `second-found`, `none-found`); and what of it a group shares (`shares`, `keeps`, `bars`).
+-- is read and found in b0 and then in b1 (`first-found`, `second-found`, `none-found`); and what of it a group shares (`shares`, `keeps`, `bars`, `same-shared`).
 use mathlib.Core.Path.{_≡_, refl, sym, ap, _∙_}
 use Prim.Native.Nat.{ℕ, suc, _+_, _*_, _^_, _≤_, _<_, max}
 use mathlib.Core.Bool.{Bool, true, false, _&&_}
@@ -23,6 +23,7 @@ use Rattle.machine.specs.Images.{bucketAt, frontAt, backAt, inFront, inBack}
 use Rattle.machine.specs.Machine.{Asked, asked, denied, front, first, second, readsBehind, askSecond, askAt}
 use Rattle.machine.specs.Calls.{askOf}
 use Rattle.machine.proofs.AskLaws.{askBehind}
+use Rattle.machine.proofs.ChoiceLaws.{same-bucket, reads-same}
 use Rattle.machine.proofs.CoincideLaws.{behind-same}
 use Rattle.machine.proofs.RoomLaws.{found-room}
 use Rattle.machine.proofs.RowLaws.{ask-at}
@@ -142,10 +143,6 @@ module _ (L : Layout) (B f x : ℕ) (img : List ℕ) where
     first-sound e =
         then-sound (fronts B + firstBucket f) (backMembers L B (firstBucket f) (bucketAt (fronts B + firstBucket f) img)) _ (sym (ap number (ask-exceeds B over)) ∙ e)
 
-    -- where b0 = b1, it goes on to b1 at once
-    pub same-first : f < fronts B → coincide B f ≡ true → askSecond L B f x img ≡ askAt L B f x img
-    same-first h c = sym (ask-exceeds B over ∙ behind-same L B f x img c h)
-
   -- an ask that went on to b1 and is accepted has found it sound
   pub second-sound : askSecond L B f x img ≡ askAt L B f x img → number (askAt L B f x img) ≡ 0
       → (zs : List ℕ) × (backAt L B (secondBucket B f) img ≡ accepted zs)
@@ -171,6 +168,14 @@ module _ (L : Layout) (B f x : ℕ) (img : List ℕ) where
           → (a : Asked) × (accepted a ≡ askSecond L B f x img) × (a .reads ≡ readsBehind B f)
       go none e = (_, none-found r refl e, refl)
       go (some s) e = (_, second-found r refl e, refl)
+
+  -- where b0 = b1, that is the second
+  pub same-shared : Exceeds L f x img → f < fronts B → coincide B f ≡ true → BackRead L B (firstBucket f) img → {reads : ℕ} → reads ≤ 2
+      → accepted 2 ≡ sharing L B f x img reads
+  same-shared over h c r {reads} l =
+      let t = second-read (rw (same-bucket B f c) at r) in
+      let n = reads-same B f c in
+      rw (t .2 ∙ n) at (shares {reads = reads} (t .1 ∙ sym (ask-exceeds B over ∙ behind-same L B f x img c h)) (omega (arith, t .2, n)))
 
   pub second-unsound : {i : ℕ} → backAt L B (secondBucket B f) img ≡ refused 3 i → refused 3 i ≡ askSecond L B f x img
   unfolding askSecond

@@ -22,9 +22,10 @@ use search::Search;
 use search::find::count_front;
 use search::find::largest_front;
 ghost use mathlib.Core.Path.{_≡_};
+ghost use mathlib.Core.Bool.{false};
 ghost use Prim.Native.Nat.{_<_, _≤_};
 ghost use Rattle.crumbmap.specs.Layouts.{layout1, keys};
-ghost use Rattle.crumbmap.specs.CrumbMap.{firstBucket};
+ghost use Rattle.crumbmap.specs.CrumbMap.{firstBucket, coincide as coinciding};
 ghost use Rattle.image.specs.Steps.ImageReads.{FrontIn, FrontRead, BackRead, Exceeds};
 ghost use Rattle.grouping.specs.Steps.Grouping.{reachAt, boundAt, GroupRead, sharedOf, PastFirst, sharing, advanced, testedAt, tested, Known, Extends};
 
@@ -161,7 +162,7 @@ fn share_front(image: &[u8], size: usize, front: Front, key: u32, reads: u32) ->
     share_first(image, size, front, key)
 }
 
-// b0 is read.
+// b0 is read; where it is b1 too, no more is to be read.
 fn share_first(image: &[u8], size: usize, front: Front, key: u32) -> Shared
     requires { ⌜ FrontIn size (front .0) (now image) × (key < keys layout1) × Exceeds layout1 (front .0) key (now image) ⌝ }
     ensures { λ r. ⌜ sharedOf r ≡ sharing layout1 size (front .0) key (now (image .entry)) 1 ⌝ }
@@ -175,6 +176,9 @@ fn share_first(image: &[u8], size: usize, front: Front, key: u32) -> Shared
     ) else {
         return Shared::Unsound(table_of(size, way.bucket));
     };
+    if coincide(front, size) {
+        return Shared::Read(2);
+    }
     let reading = BackReading {
         way,
         members,
@@ -186,26 +190,27 @@ fn share_first(image: &[u8], size: usize, front: Front, key: u32) -> Shared
     Shared::Read(2)
 }
 
-// b0 was read.
+// The same where b0 was read.
 fn share_again(image: &[u8], size: usize, front: Front, key: u32) -> Shared
     requires { ⌜ FrontIn size (front .0) (now image) × (key < keys layout1) × Exceeds layout1 (front .0) key (now image)
         × BackRead layout1 size (firstBucket (front .0)) (now image) ⌝ }
     ensures { λ r. ⌜ sharedOf r ≡ sharing layout1 size (front .0) key (now (image .entry)) 2 ⌝ }
 {
+    if coincide(front, size) {
+        return Shared::Read(2);
+    }
     let Search::At(_, _) = seek_at(image, size, first_of(front, size), key) else {
         return share_second(image, size, front, key, 2);
     };
     Shared::Read(2)
 }
 
-// b1 is read, unless it was as b0, for a key that is not in First(f); whether it is there makes no difference to the reads.
+// b1 is read, which is not b0, for a key that is not in b0; whether it is there makes no difference to the reads.
 fn share_second(image: &[u8], size: usize, front: Front, key: u32, reads: u32) -> Shared
-    requires { ⌜ FrontIn size (front .0) (now image) × (key < keys layout1) × PastFirst layout1 size (front .0) key (now image) × (reads < 3) ⌝ }
+    requires { ⌜ FrontIn size (front .0) (now image) × (key < keys layout1) × PastFirst layout1 size (front .0) key (now image) × (reads < 3)
+        × (coinciding size (front .0) ≡ false) ⌝ }
     ensures { λ r. ⌜ sharedOf r ≡ sharing layout1 size (front .0) key (now (image .entry)) reads ⌝ }
 {
-    if coincide(front, size) {
-        return Shared::Read(2);
-    }
     let way = second_of(front, size);
     let Reading::Members(_, _) = read_back_at(image, size, way.bucket, key * 16 + way.crumb) else {
         return Shared::Unsound(table_of(size, way.bucket));

@@ -13,13 +13,12 @@ use image::place::bucket;
 use search::Search;
 use search::find::seek_front;
 ghost use mathlib.Core.Path.{_≡_};
-ghost use Prim.Native.Nat.{_<_, _^_};
-ghost use Rattle.crumbmap.specs.Layouts.{layout1, keys};
+ghost use Prim.Native.Nat.{_<_, _≤_, _^_};
+ghost use Rattle.crumbmap.specs.Layouts.{layout1, keys, fronts};
 ghost use Rattle.machine.specs.Results.{number};
-ghost use Rattle.crumbmap.specs.CrumbMap.{secondBucket};
-ghost use Rattle.machine.specs.Machine.{readsBehind, askSecond, askAt};
+ghost use Rattle.machine.specs.Machine.{readsBehind, askAt};
 ghost use Rattle.machine.specs.Calls.{askOf};
-ghost use Rattle.image.specs.Steps.ImageReads.{Whole, FrontIn, BackRead, Exceeds};
+ghost use Rattle.image.specs.Steps.ImageReads.{Whole, FrontIn, Exceeds};
 ghost use Rattle.grouping.specs.Steps.Grouping.{told, toldBy, filled};
 
 // An entry whose ask is accepted, with its answer.
@@ -40,31 +39,33 @@ pub fn tell(image: &[u8], size: usize, e: Entry) -> Entry
     }
 }
 
-// The same for a key that exceeds the largest of a full front bucket. Where its two backyard buckets are one, none of its members carries choice 0.
+// The same for a key that exceeds the largest of a full front bucket.
 fn tell_behind(image: &[u8], size: usize, front: Front, key: u32, e: Entry) -> Entry
     requires { ⌜ FrontIn size (front .0) (now image) × (key < keys layout1) × Exceeds layout1 (front .0) key (now image)
         × (number (askAt layout1 size (front .0) key (now image)) ≡ 0) ⌝ }
     ensures { λ r. ⌜ r ≡ toldBy e (askAt layout1 size (front .0) key (now (image .entry))) ⌝ }
 {
-    if coincide(front, size) {
-        return tell_second(image, size, front, key, e, 2);
-    }
     match seek_at(image, size, first_of(front, size), key) {
         Search::At(slot, copies) => answered(e, 2, 2, slot, copies),
-        Search::Absent => tell_second(image, size, front, key, e, 3),
+        Search::Absent => {
+            let reads = reads_behind(front, size);
+            match seek_at(image, size, second_of(front, size), key) {
+                Search::At(slot, copies) => answered(e, reads, 3, slot, copies),
+                Search::Absent => answered(e, reads, 0, 0, 0),
+            }
+        }
     }
 }
 
-// The same by b1, the last bucket: so many are read with it.
-fn tell_second(image: &[u8], size: usize, front: Front, key: u32, e: Entry, reads: u32) -> Entry
-    requires { ⌜ FrontIn size (front .0) (now image) × (key < keys layout1) × BackRead layout1 size (secondBucket size (front .0)) (now image)
-        × (reads ≡ readsBehind size (front .0)) ⌝ }
-    ensures { λ r. ⌜ r ≡ toldBy e (askSecond layout1 size (front .0) key (now (image .entry))) ⌝ }
+// How many buckets are read by an ask that comes to b1: where it is b0, it is not read again.
+fn reads_behind(front: Front, size: usize) -> u32
+    requires { ⌜ (front .0 < fronts size) × (size ≤ 65536) ⌝ }
+    ensures { λ r. ⌜ r ≡ readsBehind size (front .0) ⌝ }
 {
-    match seek_at(image, size, second_of(front, size), key) {
-        Search::At(slot, copies) => answered(e, reads, 3, slot, copies),
-        Search::Absent => answered(e, reads, 0, 0, 0),
+    if coincide(front, size) {
+        return 2;
     }
+    3
 }
 
 // An entry receives its reads, place and slot, and the copies there.

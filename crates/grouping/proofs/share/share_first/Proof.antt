@@ -1,5 +1,5 @@
 -- `grouping::share::share_first` meets its contract: b0 is unsound, or the key is in it and the ask reads no more (`first-found`), or b1 is read.
-use mathlib.Core.Path.{_≡_}
+use mathlib.Core.Path.{_≡_, sym, _∙_}
 use mathlib.Core.Bool.{true}
 use mathlib.Core.Option.{Option}
 use Prim.Native.Nat.{_+_, _*_}
@@ -13,13 +13,19 @@ use Rattle.search.proofs.FoundLaws.{search-some, search-none}
 use Rattle.machine.specs.Images.{inBack}
 use Rattle.image.specs.Steps.ImageReads.{Reads}
 use Rattle.image.proofs.ImageReadLaws.{back-in, way-read, way-unsound, read-for}
-use Rattle.grouping.proofs.LoneLaws.{way-found, first-found, first-unsound, shares, bars}
+use Rattle.grouping.proofs.LoneLaws.{way-found, first-found, first-unsound, same-shared, shares, bars}
 use Rattle.grouping.proofs.share.share_first.Statement.{statement}
 use Rattle.grouping.proofs.share.share_first.Tie as tie
 
--- the points of the walk: b0 was searched; it is sound; it is read; where it is; the start
+-- the points of the walk: b0 was searched; it is not b1; b0 and b1 are compared; b0 is sound; it is read; where it is; the start
+abbrev apart : tie.After-find-at → tie.Else1
+apart c = c .before
+
+abbrev checked : tie.After-coincide → tie.After-known-told
+checked c = c .before
+
 abbrev sound : tie.After-find-at → tie.After-known-told
-sound c = c .before
+sound c = checked (apart c .before)
 
 abbrev read : tie.After-known-told → tie.After-read-back-at
 read c = c .before .before .before
@@ -69,17 +75,30 @@ returns c =
     rw (c .table-of .ensures, l .bucket)
     (bars layout1 (a .size) (a .front .0) (a .key) (a .image .now) 1 (first-unsound layout1 (a .size) (a .front .0) (a .key) (a .image .now) (s .pre .2) e))
 
+returns-2 : tie.Need-returns-2
+returns-2 c =
+    let k = checked (c .before) in
+    let s = start (way (read k)) in
+    let a = s .args in
+    same-shared layout1 (a .size) (a .front .0) (a .key) (a .image .now) (s .pre .2) (s .pre .0 .front) (sym (c .before .coincide .ensures) ∙ c .if1 .taken)
+    (reads k .read) (omega arith)
+
 find-at-requires : tie.Need-find-at-requires
-find-at-requires c κs = read-for (reads c) (start (way (read c)) .pre .1)
+find-at-requires c κs = let k = checked (c .before) in read-for (reads k) (start (way (read k)) .pre .1)
 
 share-second-requires : tie.Need-share-second-requires
 share-second-requires c κs =
     let f = c .before .before in
-    let p = start (way (read (sound f))) .pre in
-    (p .0, p .1, record { over = p .2; read = reads (sound f) .read; absent = search-none (standing f) (found f) (c .enum-told3 .given .1) }, omega arith)
+    let p = start (way (read (sound f))) .pre in (
+      p .0,
+      p .1,
+      record { over = p .2; read = reads (sound f) .read; absent = search-none (standing f) (found f) (c .enum-told3 .given .1) },
+      omega arith,
+      sym (apart f .before .coincide .ensures) ∙ apart f .if1 .left,
+    )
 
-returns-3 : tie.Need-returns-3
-returns-3 c =
+returns-4 : tie.Need-returns-4
+returns-4 c =
     let f = c .before .before in
     let s = start (way (read (sound f))) in
     let a = s .args in
@@ -99,9 +118,11 @@ share-first-spec =
     (λ c. search needs)
     (λ c κs. search needs)
     returns
+    (λ c κs. search needs)
+    returns-2
     find-at-requires
     (λ c. search needs)
     (λ c. search needs)
     share-second-requires
     (λ c. search needs)
-    returns-3)
+    returns-4)

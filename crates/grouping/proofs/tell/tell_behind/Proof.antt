@@ -1,6 +1,5 @@
--- `grouping::tell::tell_behind` meets its contract: the key is found in b0, or the ask goes on to b1; an accepted ask has found both sound where it
--- read them.
-use mathlib.Core.Path.{_≡_, sym, ap, _∙_}
+-- `grouping::tell::tell_behind` meets its contract: the key is found in b0, or in b1, or nowhere; an accepted ask has found both sound where it read them.
+use mathlib.Core.Path.{_≡_, ap, _∙_}
 use Prim.Native.Nat.{ℕ, _+_, _*_}
 use mathlib.Core.Bool.{true, false}
 use mathlib.Core.List.{List}
@@ -9,142 +8,167 @@ use native.Mathlib.Omega.{arith}
 use borrow.Author.Needs.{needs}
 use Rattle.multiset.specs.Multisets.{foundIn}
 use Rattle.crumbmap.specs.Layouts.{layout1}
-use Rattle.crumbmap.specs.CrumbMap.{firstBucket, secondBucket, firstCrumb, coincide}
+use Rattle.crumbmap.specs.CrumbMap.{firstBucket, secondBucket, firstCrumb, secondCrumb}
 use Rattle.crumbmap.proofs.CrumbMapLaws.{bucketOf-lt}
 use Rattle.buckets.proofs.BucketLaws.{fits1}
 use Rattle.search.specs.Steps.Searches.{searchOf}
 use Rattle.search.proofs.FoundLaws.{search-some, search-none}
 use Rattle.machine.specs.Images.{inBack}
 use Rattle.machine.specs.Machine.{askSecond, askAt}
-use Rattle.machine.proofs.ChoiceLaws.{reads-same, reads-apart}
 use Rattle.image.specs.Steps.ImageReads.{BackRead}
 use Rattle.image.proofs.ImageReadLaws.{back-in, bag-read}
 use Rattle.grouping.specs.Steps.Grouping.{toldBy}
-use Rattle.grouping.proofs.LoneLaws.{way-found, found-fits, first-found, first-sound, past-first, same-first, second-sound}
+use Rattle.grouping.proofs.LoneLaws.{way-found, found-fits, first-found, first-sound, past-first, second-sound, second-found, none-found}
 use Rattle.grouping.proofs.GroupLaws.{back-read}
 use Rattle.grouping.proofs.tell.tell_behind.Statement.{statement}
 use Rattle.grouping.proofs.tell.tell_behind.Tie as tie
 
--- the points of the walk: it is not in b0, or is; it was sought there; where that is; b0 and b1 are compared; the bytes are known; the start
-abbrev absent : tie.After-enum-told → tie.After-seek-at
-absent c = c .before .before
+-- the points of the walk: it is in b1, or not; it was sought there; where that is; how many are read then; it is not in b0, or is; it was sought there; where that is; the bytes
+-- are known; the start
+abbrev told2 : tie.After-known-told2 → tie.After-seek-at2
+told2 c = c .before .before .before
 
-abbrev told : tie.After-known-told → tie.After-seek-at
-told c = c .before .before .before
+abbrev denied2 : tie.After-enum-told2 → tie.After-seek-at2
+denied2 c = c .before .before
 
-abbrev way : tie.After-seek-at → tie.After-first-of
-way c = c .before
+abbrev way2 : tie.After-seek-at2 → tie.After-second-of
+way2 c = c .before
 
-abbrev apart : tie.After-first-of → tie.Else1
-apart c = c .before
+abbrev read-so-far : tie.After-second-of → tie.After-reads-behind
+read-so-far c = c .before
 
-abbrev bytes : tie.After-coincide → tie.After-shared-slice-known
+abbrev absent : tie.After-second-of → tie.After-enum-told
+absent c = read-so-far c .before
+
+abbrev sought1 : tie.After-enum-told → tie.After-seek-at
+sought1 c = c .before .before
+
+abbrev told1 : tie.After-known-told → tie.After-seek-at
+told1 c = c .before .before .before
+
+abbrev way1 : tie.After-seek-at → tie.After-first-of
+way1 c = c .before
+
+abbrev bytes : tie.After-first-of → tie.After-shared-slice-known
 bytes c = c .before
 
-abbrev begun : tie.After-coincide → tie.Start
-begun c = bytes c .before
-
 abbrev start : tie.After-first-of → tie.Start
-start c = begun (apart c .before)
+start c = bytes c .before
 
 -- the members of b0, which was read, and what was found there: a copy of the key with its crumb, or none
-abbrev members : tie.After-first-of → List ℕ
-members c = let a = start c .args in inBack layout1 (a .size) (firstBucket (a .front .0)) (a .image .now)
+abbrev members1 : tie.After-first-of → List ℕ
+members1 c = let a = start c .args in inBack layout1 (a .size) (firstBucket (a .front .0)) (a .image .now)
 
-abbrev member : tie.After-first-of → ℕ
-member c = let a = start c .args in a .key * 16 + firstCrumb (a .front .0)
+abbrev member1 : tie.After-first-of → ℕ
+member1 c = let a = start c .args in a .key * 16 + firstCrumb (a .front .0)
 
-read : (c : tie.After-first-of) → let a = start c .args in BackRead layout1 (a .size) (firstBucket (a .front .0)) (a .image .now)
-read c =
+read1 : (c : tie.After-first-of) → let a = start c .args in BackRead layout1 (a .size) (firstBucket (a .front .0)) (a .image .now)
+read1 c =
     let s = start c in
     let a = s .args in
     let e = first-sound layout1 (a .size) (a .front .0) (a .key) (a .image .now) (s .pre .2) (s .pre .3) in
-    back-read fits1 (λ i. bytes (apart c .before) .shared-slice-known .given i .fits) (back-in (s .pre .0 .whole) (bucketOf-lt true (a .size) (a .front .0) (s .pre .0 .front))) (e .1)
+    back-read fits1 (λ i. bytes c .shared-slice-known .given i .fits) (back-in (s .pre .0 .whole) (bucketOf-lt true (a .size) (a .front .0) (s .pre .0 .front))) (e .1)
 
-found : (c : tie.After-seek-at) → c .seek-at .result ≡ searchOf (foundIn (member (way c)) (members (way c)))
-found c = let a = start (way c) .args in way-found layout1 true (way c .first-of .ensures) (a .key) (a .image .now) (c .seek-at .ensures)
+found1 : (c : tie.After-seek-at) → c .seek-at .result ≡ searchOf (foundIn (member1 (way1 c)) (members1 (way1 c)))
+found1 c = let a = start (way1 c) .args in way-found layout1 true (way1 c .first-of .ensures) (a .key) (a .image .now) (c .seek-at .ensures)
 
-here : (c : tie.After-known-told) → let w = way (told c) in let g = c .before .slot .given .0 in
-    foundIn (member w) (members w) ≡ some (record { slot = g .0; copies = g .1 .0 })
-here c = let w = way (told c) in search-some (foundIn (member w) (members w)) (found (told c)) (c .before .slot .given .1)
+some1 : (c : tie.After-known-told) → let w = way1 (told1 c) in let g = c .before .slot .given .0 in
+    foundIn (member1 w) (members1 w) ≡ some (record { slot = g .0; copies = g .1 .0 })
+some1 c = let w = way1 (told1 c) in search-some (foundIn (member1 w) (members1 w)) (found1 (told1 c)) (c .before .slot .given .1)
 
-nowhere : (c : tie.After-enum-told) → let w = way (absent c) in foundIn (member w) (members w) ≡ none
-nowhere c = let w = way (absent c) in search-none (foundIn (member w) (members w)) (found (absent c)) (c .enum-told .given .1)
+none1 : (c : tie.After-enum-told) → let w = way1 (sought1 c) in foundIn (member1 w) (members1 w) ≡ none
+none1 c = let w = way1 (sought1 c) in search-none (foundIn (member1 w) (members1 w)) (found1 (sought1 c)) (c .enum-told .given .1)
 
--- the ask goes on to b1, at once where b0 = b1
-one : (c : tie.Then1) → let a = begun (c .before) .args in coincide (a .size) (a .front .0) ≡ true
-one c = sym (c .before .coincide .ensures) ∙ c .if1 .taken
+-- the same of b1
+abbrev begun : tie.After-second-of → tie.After-first-of
+begun c = way1 (sought1 (absent c))
 
-at-once : (c : tie.Then1) → let a = begun (c .before) .args in
-    askSecond layout1 (a .size) (a .front .0) (a .key) (a .image .now) ≡ askAt layout1 (a .size) (a .front .0) (a .key) (a .image .now)
-at-once c =
-    let s = begun (c .before) in
-    let a = s .args in
-    same-first layout1 (a .size) (a .front .0) (a .key) (a .image .now) (s .pre .2) (s .pre .0 .front) (one c)
+abbrev members2 : tie.After-second-of → List ℕ
+members2 c = let a = start (begun c) .args in inBack layout1 (a .size) (secondBucket (a .size) (a .front .0)) (a .image .now)
 
-goes-on : (c : tie.After-enum-told) → let a = start (way (absent c)) .args in
+abbrev member2 : tie.After-second-of → ℕ
+member2 c = let a = start (begun c) .args in a .key * 16 + secondCrumb (a .front .0)
+
+-- the ask goes on to b1
+goes-on : (c : tie.After-second-of) → let a = start (begun c) .args in
     askSecond layout1 (a .size) (a .front .0) (a .key) (a .image .now) ≡ askAt layout1 (a .size) (a .front .0) (a .key) (a .image .now)
 goes-on c =
-    let w = way (absent c) in
-    let a = start w .args in
-    past-first layout1 (a .size) (a .front .0) (a .key) (a .image .now) (start w .pre .2) (read w .accepts) (nowhere c)
+    let k = begun c in
+    let a = start k .args in
+    past-first layout1 (a .size) (a .front .0) (a .key) (a .image .now) (start k .pre .2) (read1 k .accepts) (none1 (absent c))
 
--- and has found it sound
-read2 : (c : tie.After-coincide) → let a = begun c .args in
-    askSecond layout1 (a .size) (a .front .0) (a .key) (a .image .now) ≡ askAt layout1 (a .size) (a .front .0) (a .key) (a .image .now)
-    → BackRead layout1 (a .size) (secondBucket (a .size) (a .front .0)) (a .image .now)
-read2 c on =
-    let s = begun c in
+read2 : (c : tie.After-second-of) → let a = start (begun c) .args in BackRead layout1 (a .size) (secondBucket (a .size) (a .front .0)) (a .image .now)
+read2 c =
+    let k = begun c in
+    let s = start k in
     let a = s .args in
-    let e = second-sound layout1 (a .size) (a .front .0) (a .key) (a .image .now) on (s .pre .3) in
-    back-read fits1 (λ i. bytes c .shared-slice-known .given i .fits) (back-in (s .pre .0 .whole) (bucketOf-lt false (a .size) (a .front .0) (s .pre .0 .front))) (e .1)
+    let e = second-sound layout1 (a .size) (a .front .0) (a .key) (a .image .now) (goes-on c) (s .pre .3) in
+    back-read fits1 (λ i. bytes k .shared-slice-known .given i .fits) (back-in (s .pre .0 .whole) (bucketOf-lt false (a .size) (a .front .0) (s .pre .0 .front))) (e .1)
 
-tell-second-requires : tie.Need-tell-second-requires
-tell-second-requires c κs =
-    let s = begun (c .before) in
-    (s .pre .0, s .pre .1, read2 (c .before) (at-once c), sym (reads-same (s .args .size) (s .args .front .0) (one c)))
+found2 : (c : tie.After-seek-at2) → c .seek-at2 .result ≡ searchOf (foundIn (member2 (way2 c)) (members2 (way2 c)))
+found2 c = let a = start (begun (way2 c)) .args in way-found layout1 false (way2 c .second-of .ensures) (a .key) (a .image .now) (c .seek-at2 .ensures)
 
-returns : tie.Need-returns
-returns c = let k = c .before in c .tell-second .ensures ∙ ap (toldBy (begun (k .before) .args .e)) (at-once k)
+some2 : (c : tie.After-known-told2) → let w = way2 (told2 c) in let g = c .before .slot2 .given .0 in
+    foundIn (member2 w) (members2 w) ≡ some (record { slot = g .0; copies = g .1 .0 })
+some2 c = let w = way2 (told2 c) in search-some (foundIn (member2 w) (members2 w)) (found2 (told2 c)) (c .before .slot2 .given .1)
+
+none2 : (c : tie.After-enum-told2) → let w = way2 (denied2 c) in foundIn (member2 w) (members2 w) ≡ none
+none2 c = let w = way2 (denied2 c) in search-none (foundIn (member2 w) (members2 w)) (found2 (denied2 c)) (c .enum-told2 .given .1)
 
 seek-at-requires : tie.Need-seek-at-requires
-seek-at-requires c κs = (bag-read (c .first-of .ensures) (read c), start c .pre .1)
+seek-at-requires c κs = (bag-read (c .first-of .ensures) (read1 c), start c .pre .1)
 
 answered-requires : tie.Need-answered-requires
 answered-requires c κs =
-    let w = way (told c) in
-    found-fits (member w) (members w) (here c) (omega (arith, read w .list .room))
+    let w = way1 (told1 c) in
+    found-fits (member1 w) (members1 w) (some1 c) (omega (arith, read1 w .list .room))
 
-tell-second-requires-2 : tie.Need-tell-second-requires-2
-tell-second-requires-2 c κs =
-    let k = apart (way (absent c)) in
-    let s = begun (k .before) in
-    let two = sym (k .before .coincide .ensures) ∙ k .if1 .left in
-    (s .pre .0, s .pre .1, read2 (k .before) (goes-on c), sym (reads-apart (s .args .size) (s .args .front .0) two))
+seek-at-requires-2 : tie.Need-seek-at-requires-2
+seek-at-requires-2 c κs = (bag-read (c .second-of .ensures) (read2 c), start (begun c) .pre .1)
+
+answered-requires-2 : tie.Need-answered-requires-2
+answered-requires-2 c κs =
+    let w = way2 (told2 c) in
+    found-fits (member2 w) (members2 w) (some2 c) (omega (arith, read2 w .list .room))
+
+returns : tie.Need-returns
+returns c =
+    let t = c .before in
+    let w = way1 (told1 t) in
+    let s = start w in
+    let a = s .args in
+    c .answered .ensures ∙ ap (toldBy (a .e)) (first-found layout1 (a .size) (a .front .0) (a .key) (a .image .now) (s .pre .2) (read1 w) (some1 t))
 
 returns-2 : tie.Need-returns-2
 returns-2 c =
     let t = c .before in
-    let w = way (told t) in
-    let s = start w in
-    let a = s .args in
-    c .answered .ensures ∙ ap (toldBy (a .e)) (first-found layout1 (a .size) (a .front .0) (a .key) (a .image .now) (s .pre .2) (read w) (here t))
+    let w = way2 (told2 t) in
+    let a = start (begun w) .args in
+    c .answered2 .ensures ∙ ap (toldBy (a .e)) (second-found layout1 (a .size) (a .front .0) (a .key) (a .image .now) (read2 w) (read-so-far w .reads-behind .ensures) (some2 t) ∙ goes-on w)
 
 returns-3 : tie.Need-returns-3
-returns-3 c = c .tell-second2 .ensures ∙ ap (toldBy (start (way (absent (c .before))) .args .e)) (goes-on (c .before))
+returns-3 c =
+    let t = c .before in
+    let w = way2 (denied2 t) in
+    let a = start (begun w) .args in
+    c .answered3 .ensures ∙ ap (toldBy (a .e)) (none-found layout1 (a .size) (a .front .0) (a .key) (a .image .now) (read2 w) (read-so-far w .reads-behind .ensures) (none2 t) ∙ goes-on w)
 
 pub tell-behind-spec : {M : Type 1} → statement M
 tell-behind-spec =
     tie.close
     (tie.spec
     (λ c κs. search needs)
-    tell-second-requires
-    returns
-    (λ c κs. search needs)
     seek-at-requires
     (λ c. search needs)
     answered-requires
     (λ c. search needs)
-    tell-second-requires-2
+    (λ c κs. search needs)
+    (λ c κs. search needs)
+    seek-at-requires-2
+    (λ c. search needs)
+    answered-requires-2
+    (λ c. search needs)
+    (λ c κs. search needs)
+    returns
     returns-2
     returns-3)
