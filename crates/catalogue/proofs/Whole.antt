@@ -5,6 +5,7 @@
 use mathlib.Core.Path.{_≡_, refl, sym, _∙_, ap}
 use mathlib.Core.Logic.{_↔_, _⊎_, inl, inr, ⊎-elim}
 use Prim.Native.Nat.{ℕ, _+_, _*_, _^_, _<_, _≤_}
+use mathlib.Core.Bool.{true}
 use mathlib.Core.List.{List, _++_}
 use mathlib.Core.Option.{some}
 use lib.ListN.{length, take, drop, length-drop}
@@ -12,6 +13,7 @@ use lib.Seq.{take-append-le, drop-append-le}
 use native.Mathlib.Omega.{arith}
 use Rattle.crumbmap.specs.Layouts.{Layout, known, layout1, fronts, mostMembers}
 use Rattle.crumbmap.specs.Fingerprints.{frontOf, keyOf}
+use Rattle.crumbmap.specs.CrumbMap.{coincide}
 use Rattle.machine.specs.Homes.{AllLeadHome}
 use Rattle.machine.specs.Results.{Result, accepted, refused, number}
 use Rattle.machine.specs.Machine as M
@@ -41,7 +43,7 @@ use Rattle.history.specs.Demand.{Holds}
 use Rattle.history.specs.Copies.{CopiesTold}
 use Rattle.history.specs.Occupancies.{filedIn, pageSaid, Shows}
 use Rattle.history.proofs.Theorem.{known-fit, demand3-known, check-accepts, merge-refused-only-full, no-tail-number, spent-at-top, stale-refused}
-use Rattle.history.proofs.Theorem.{members-lead-home, copies-told, occupancy-said, page-long, page-accepted, line-shows}
+use Rattle.history.proofs.Theorem.{members-lead-home, copies-told, ask-reads-once, count-reads-once, occupancy-said, page-long, page-accepted, line-shows}
 use Rattle.catalogue.specs.Runs.{Performed, Happened}
 use Rattle.catalogue.specs.Delivery.{Demand, timesFiled}
 use Rattle.machine.proofs.AcceptedLaws.{same-answer, never-refused}
@@ -51,8 +53,9 @@ use Rattle.catalogue.proofs.ToldWalks.{walk-told}
 -- ---- what a caller meets
 
 -- an answer that the machine accepts is accepted, with the machine's values
-count-accepted : (r : CountResult) (m : M.Counted) → countedOf r ≡ accepted m → (c : Counted) × (r ≡ T.Accepted c) × (c .copies ≡ m .copies)
-count-accepted (T.Accepted c) m e = (c, refl, ap (λ (x : M.Counted). x .copies) (same-answer e))
+count-accepted : (r : CountResult) (m : M.Counted) → countedOf r ≡ accepted m
+    → (c : Counted) × (r ≡ T.Accepted c) × (c .copies ≡ m .copies) × (c .reads ≡ m .reads)
+count-accepted (T.Accepted c) m e = let s = same-answer e in (c, refl, ap (λ (x : M.Counted). x .copies) s, ap (λ (x : M.Counted). x .reads) s)
 count-accepted (T.Refused x) m e = absurd (refusal-never M.Counted x (ap number e))
 
 ask-accepted : (r : AskResult) (m : M.Asked) → askedOf r ≡ accepted m
@@ -106,7 +109,7 @@ module _ {h : History} {img : List ℕ} (happened : Happened h img) where
   next-due c n new fits d = performed d .0 ∙ rw left (holds-at (H.followed h c) (started, fits) (numbered happened) .refusals .1)
 
   count-tells : (k : ℕ) (r : CountResult) → k < 2 ^ 64 → countedOf r ≡ countOf known img k → (c : Counted) × (r ≡ T.Accepted c) × (c .copies ≡ timesFiled h k)
-  count-tells k r l e = let m = holds .counts k l in count-accepted r _ ((rw left at e) ∙ m .1)
+  count-tells k r l e = let m = holds .counts k l in let c = count-accepted r _ ((rw left at e) ∙ m .1) in (c .0, c .1, c .2)
 
   ask-tells : (k : ℕ) (r : AskResult) → k < 2 ^ 64 → askedOf r ≡ askOf known img k → (a : Asked) × (r ≡ A.Accepted a)
       × ((a .place ≡ P.Nowhere → ⊥) ↔ (0 < timesFiled h k))
@@ -191,6 +194,22 @@ calls-tell-copies {h} happened k r l e =
         few = t .few;
       },
     )
+
+-- and at a front bucket whose two backyard buckets coincide an ask of that image has at most 2 reads and is never told first, and a count has at most 2
+pub calls-read-once : {h : History} {img : List ℕ} → Happened h img → (k : ℕ) → k < 2 ^ 64 → coincide (blocks h) (frontOf (blocks h) k) ≡ true
+    → ((r : AskResult) → askedOf r ≡ askOf known img k → (a : Asked) × (r ≡ A.Accepted a) × (a .reads ≤ 2) × ((i : ℕ) → a .place ≡ P.First i → ⊥))
+    × ((r : CountResult) → countedOf r ≡ countOf known img k → (c : Counted) × (r ≡ T.Accepted c) × (c .reads ≤ 2))
+calls-read-once {h} happened k l one = (
+  λ r e.
+      let m = holds happened .asks k l in
+      let a = ask-accepted r _ ((rw (left happened) at e) ∙ m .1) in
+      let o = ask-reads-once known known-fit h (started happened) layout1 (named happened) k one l (m .1) in
+      (a .0, a .1, omega (arith, a .2, o .few), λ i q. o .not-first i (sym (a .3) ∙ ap placeOf q)),
+  λ r e.
+      let m = holds happened .counts k l in
+      let c = count-accepted r _ ((rw (left happened) at e) ∙ m .1) in
+      (c .0, c .1, omega (arith, c .3, count-reads-once known known-fit h (started happened) layout1 (named happened) k one (m .1))),
+)
 
 -- and an occupancy page of that image prints what the ledger says: for each front bucket all of N over its fingerprints, split at 28
 pub calls-tell-occupancy : {h : History} {img : List ℕ} → Happened h img → (p : ℕ) (old new : List ℕ) (r : Outcome)

@@ -4,7 +4,7 @@
 -- merge of two is refused only when full (`merge-refused-only-full`); no call gets 11 or 12 (`no-tail-number`), 13 comes exactly at the top count
 -- (`spent-at-top`), and 14 exactly where a page's count is not the image's (`stale-refused`); one with that count and room enough is accepted
 -- (`page-accepted`); new, old, new gives the image with change count 0 (`image-said`, `new-old-new`); what the copies of an ask tell of the ledger
--- (`copies-told`); an occupancy page tells the ledger (`occupancy-said`, `page-long`, `line-said`, `line-shows`).
+-- (`copies-told`); how few reads there are where b0 = b1 (`ask-reads-once`, `count-reads-once`); an occupancy page tells the ledger (`occupancy-said`, `page-long`, `line-said`, `line-shows`).
 use mathlib.Core.Path.{_≡_, refl, sym, _∙_}
 use mathlib.Core.Logic.{_⊎_, inl, inr, _↔_}
 use Prim.Native.Nat.{ℕ, _+_, _*_, _^_, _≤_, _<_}
@@ -17,13 +17,16 @@ use lib.Dec.{leb, ltb}
 use borrow.Author.Tests.{eq-eqb, lt-ltb, le-ltb, ltb-true}
 use Rattle.multiset.specs.Multisets.{sum}
 use Rattle.crumbmap.specs.Layouts.{Layout, Numbering, known, keys, fronts, mostBehind, mostMembers}
-use Rattle.crumbmap.specs.Fingerprints.{fingerprint}
+use Rattle.crumbmap.specs.Fingerprints.{frontOf, keyOf, fingerprint}
+use Rattle.crumbmap.specs.CrumbMap.{coincide}
 use Rattle.crumbmap.proofs.LayoutLaws.{known-one}
 use Rattle.buckets.proofs.BucketLaws.{fits1}
 use Rattle.machine.specs.Results.{accepted, number}
 use Rattle.machine.specs.Images.{sizeOf}
 use Rattle.machine.specs.Homes.{AllLeadHome}
-use Rattle.machine.specs.Machine.{Asked, nowhere}
+use Rattle.machine.specs.Machine.{Asked, Counted, nowhere}
+use Rattle.machine.specs.Once.{AskedOnce}
+use Rattle.machine.specs.Calls as M
 use Rattle.machine.specs.OccupancyPages as O
 use Rattle.machine.specs.OccupancyPages.{pageLines, lineBytes, pageBytes, printFrom, lineWith, lineOf}
 use Rattle.machine.proofs.CheckLaws.{check-good}
@@ -34,8 +37,10 @@ use Rattle.machine.proofs.OccupancyLaws.{page-length, page-counted, lines-at}
 use Rattle.machine.proofs.ImageLaws.{sizeOf-some}
 use Rattle.machine.proofs.PageLaws.{members-good, bucket-length}
 use Rattle.machine.proofs.RoomLaws.{members-room}
+use Rattle.machine.proofs.RowLaws.{ask-at}
+use Rattle.machine.proofs.CoincideLaws.{ask-once, count-once}
 use Rattle.form.specs.Tails.{Tail, body, tailBytes, started, top}
-use Rattle.form.specs.Calls.{askOf, checkOf, tailOf, mergeSizedOf, mergeOf, occupancyOf}
+use Rattle.form.specs.Calls.{askOf, countOf, checkOf, tailOf, mergeSizedOf, mergeOf, occupancyOf}
 use Rattle.form.specs.Moves.{attachOf, detachOf}
 use Rattle.form.proofs.TailLaws.{length-body, headed-parts}
 use Rattle.form.proofs.MoveLaws as F
@@ -45,7 +50,7 @@ use Rattle.history.specs.Refusals.{due}
 use Rattle.history.specs.Demand.{Demand3, AllFit}
 use Rattle.history.specs.Copies.{CopiesTold}
 use Rattle.history.specs.Occupancies.{filedIn, pageSaid, Shows}
-use Rattle.history.proofs.LedgerLaws.{count-ledger, ask-ledger}
+use Rattle.history.proofs.LedgerLaws.{front-lt, count-ledger, ask-ledger}
 use Rattle.history.proofs.StepLaws.{Stands, headerOf, total-members, opens-at, opens, askOf-body, countOf-body, occupancyOf-body}
 use Rattle.history.proofs.HistoryLaws.{StandsAfter, check-stands, mergeSizedOf-body, stands, stands-at, call-due, all-due}
 use Rattle.history.proofs.DueLaws.{tail-numbers, spent-insert, spent-delete, stale-page}
@@ -167,6 +172,20 @@ module _ (layouts : Numbering) (fit : AllFit layouts) (h : History) (s : Started
   copies-told k l =
       let t = ask-ledger (st .fits) (st .keep) k l in
       rw (askOf-body st k) (t .0, t .1, t .4)
+
+  -- at a front bucket whose two backyard buckets coincide an ask has at most 2 reads, and its place is never first; a count has at most 2 reads
+  module _ (k : ℕ) (c : coincide (blocks h) (frontOf (blocks h) k) ≡ true) where
+    pub ask-reads-once : k < 2 ^ 64 → {a : Asked} → askOf layouts (bytesAfter layouts h) k ≡ accepted a → AskedOnce a
+    ask-reads-once l e =
+        let b = body (bytesAfter layouts h) in
+        ask-once L (blocks h) (frontOf (blocks h) k) (keyOf L k) b c (front-lt (st .keep) k l)
+        (sym (askOf-body st k ∙ ask-at L b (st .keep .good .size) k) ∙ e)
+
+    pub count-reads-once : {n : Counted} → countOf layouts (bytesAfter layouts h) k ≡ accepted n → n .reads ≤ 2
+    unfolding M.countOf
+    count-reads-once e =
+        let b = body (bytesAfter layouts h) in
+        count-once L (blocks h) (frontOf (blocks h) k) (keyOf L k) b c (rw (st .keep .good .size) at (sym (countOf-body st k) ∙ e))
 
   -- an occupancy page after a history is the one that its ledger says
   pub occupancy-said : (p room : ℕ) → occupancyOf layouts (bytesAfter layouts h) p room ≡ pageSaid layouts L h p room
