@@ -89,7 +89,8 @@ uint64_t bcf_delete(uint8_t *image, size_t length, uint64_t hash);
 #define BCF_MOVED(answer) (BCF_VALUE(answer) != 0)
 #define BCF_BACKYARD(answer) (BCF_VALUE(answer) - 1)
 
-/* Where the fingerprint is, its copies there, and the buckets read. */
+/* Where the fingerprint is, its copies there, and the buckets read: at most three, and at most two
+ * where both backyard buckets of its front bucket are one, in which nothing is in first. */
 uint64_t bcf_ask(const uint8_t *image, size_t length, uint64_t hash);
 
 /* Of an accepted ask. The slot is the lowest one of the fingerprint, the copies are those at this
@@ -113,7 +114,7 @@ typedef struct {
  * their reads. Value: the total, the sum over such groups of the greatest reads in the group. */
 uint64_t bcf_row(const uint8_t *image, size_t length, bcf_entry *row, size_t row_length);
 
-/* The copies of the fingerprint, and the buckets read. */
+/* The copies of the fingerprint, and the buckets read, as many as an ask reads at most. */
 uint64_t bcf_count(const uint8_t *image, size_t length, uint64_t hash);
 
 /* Of an accepted count. */
@@ -155,8 +156,8 @@ uint64_t bcf_merge(const uint8_t *first, size_t first_length, const uint8_t *sec
                    size_t second_length, uint8_t *target, size_t target_length);
 
 /* Checks an old image, then writes its bytes and a tail behind them into the target, which may hold
- * any bytes before: the total is that of the members, the change count 0. Both have one B.
- * Value: 0. */
+ * any bytes before: the total is that of the members, the change count 0. Both have one B. An old
+ * image in which a member leads by choice 0 to a front bucket with b0 = b1 is unsound. Value: 0. */
 uint64_t bcf_attach(const uint8_t *old, size_t old_length, uint8_t *target, size_t target_length);
 
 /* Checks an image, then writes its bytes without the tail into the target, which has the length of

@@ -113,6 +113,7 @@ pub enum Place {
 /// The answer of an ask.
 #[derive(Clone, Copy, PartialEq, Eq, Debug)]
 pub struct Asked {
+    /// At most 3, and at most 2 where both backyard buckets of the front bucket are one.
     pub reads: u64,
     pub place: Place,
     /// The copies at this place, 0 for none: of a fingerprint in front more may be in first and
@@ -245,6 +246,7 @@ impl<Bytes: AsRef<[u8]>> OldImage<Bytes> {
     }
 
     /// The same members with a tail, once they are checked: the total is theirs, the change count 0.
+    /// A member that leads by choice 0 to a front bucket with b0 = b1 is unsound.
     pub fn attach(&self) -> Result<Image, Refusal> {
         let mut target = vec![0; self.bytes().len() + TAIL_BYTES];
         unpack(packed::attach(self.bytes(), &mut target))?;

@@ -6,6 +6,9 @@ use breadcrumb::{Asked, Changed, Counted, Entry, Image, OldImage, Paged, Place, 
 /// A hash with f = 13 where B = 3.
 const THIRTEEN: u64 = 0x8AAAAAAB00000000;
 
+/// A hash with f = 9 where B = 3: its two backyard buckets are both number 1.
+const NINE: u64 = 0x6000000000000000;
+
 /// The slots of all buckets where B = 3.
 const SLOTS: u64 = 892;
 
@@ -53,6 +56,18 @@ fn tail(total: u64, changes: u64) -> Result<Tail, Refusal> {
     Ok(Tail { total, changes })
 }
 
+fn asked(reads: u64, place: Place, copies: u64) -> Result<Asked, Refusal> {
+    Ok(Asked {
+        reads,
+        place,
+        copies,
+    })
+}
+
+fn counted(copies: u64, reads: u64) -> Result<Counted, Refusal> {
+    Ok(Counted { copies, reads })
+}
+
 #[test]
 fn places_and_copies() {
     let mut image = Image::new(3).unwrap();
@@ -61,18 +76,10 @@ fn places_and_copies() {
     }
     assert_eq!(image.insert(THIRTEEN + 1), Ok(Changed::Backyard(5)));
     assert_eq!(image.insert(THIRTEEN + 2), Ok(Changed::Backyard(1)));
-    let asked = |reads, place, copies| {
-        Ok(Asked {
-            reads,
-            place,
-            copies,
-        })
-    };
     assert_eq!(image.ask(THIRTEEN), asked(1, Place::Front(0), 28));
     assert_eq!(image.ask(THIRTEEN + 2), asked(2, Place::First(0), 1));
     assert_eq!(image.ask(THIRTEEN + 1), asked(3, Place::Second(0), 1));
     assert_eq!(image.ask(THIRTEEN + 3), asked(3, Place::None, 0));
-    let counted = |copies, reads| Ok(Counted { copies, reads });
     assert_eq!(image.count(THIRTEEN), counted(28, 3));
     assert_eq!(image.count(0), counted(0, 1));
     assert_eq!(image.list().unwrap().len(), 30);
@@ -98,6 +105,33 @@ fn copies_where_an_ask_ends() {
     assert_eq!(told(1), (Place::Front(27), 1, 4));
     assert_eq!(told(2), (Place::First(1), 2, 4));
     assert_eq!(told(3), (Place::None, 0, 0));
+}
+
+#[test]
+fn one_backyard_bucket() {
+    let mut image = holding((0..29).map(|n| NINE + n));
+    assert_eq!(image.insert(NINE + 29), Ok(Changed::Backyard(1)));
+    assert_eq!(image.ask(NINE + 27), asked(1, Place::Front(27), 1));
+    assert_eq!(image.ask(NINE + 29), asked(2, Place::Second(1), 1));
+    assert_eq!(image.ask(NINE + 30), asked(2, Place::None, 0));
+    assert_eq!(image.count(NINE + 29), counted(1, 2));
+    let mut row = [NINE, NINE + 29, THIRTEEN].map(Entry::new);
+    assert_eq!(image.row(&mut row), Ok(3));
+    assert_eq!(row[1].asked(), image.ask(NINE + 29).unwrap());
+    // Choice 0 in the place of choice 1, digit 1 both times: unsound, whoever reads it.
+    let mut bytes = image.bytes().to_vec();
+    assert_eq!(bytes[64 * 25 + 52], 0x99);
+    bytes[64 * 25 + 52] = 0x91;
+    let old = OldImage::over(&bytes[..2176]);
+    assert_eq!(old.attach(), Err(Refusal::Unsound(25)));
+    let image = Image::over(bytes);
+    assert_eq!(image.ask(NINE + 28), Err(Refusal::Unsound(25)));
+    assert_eq!(image.count(NINE + 29), Err(Refusal::Unsound(25)));
+    assert_eq!(image.check(), Err(Refusal::Unsound(25)));
+    assert_eq!(
+        refused(&image, |lent| lent.delete(NINE)),
+        Refusal::Unsound(25)
+    );
 }
 
 #[test]

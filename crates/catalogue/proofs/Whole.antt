@@ -1,7 +1,8 @@
 -- The contracts and the history theorem joined: demand 3 holds of the calls themselves, and what C-14 says of the total (`demand`); inserts and deletes
 -- get 13 exactly at the top count (`calls-spend`), and a page 14 exactly where its count is not the image's (`calls-notice`); one with that count and
 -- room enough is accepted (`calls-list`). Each backyard member in the image that they left leads home (`calls-lead-home`), the copies of an ask tell of
--- the ledger (`calls-tell-copies`), and its occupancy pages tell the ledger (`calls-tell-occupancy`, `calls-show-occupancy`).
+-- the ledger (`calls-tell-copies`), asks and counts have few reads where b0 = b1 (`calls-read-once`), and its occupancy pages tell the ledger
+-- (`calls-tell-occupancy`, `calls-show-occupancy`).
 use mathlib.Core.Path.{_≡_, refl, sym, _∙_, ap}
 use mathlib.Core.Logic.{_↔_, _⊎_, inl, inr, ⊎-elim}
 use Prim.Native.Nat.{ℕ, _+_, _*_, _^_, _<_, _≤_}
