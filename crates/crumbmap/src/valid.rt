@@ -5,7 +5,7 @@ use crate::Strides;
 use crate::map::strides_of;
 ghost use mathlib.Core.Path.{_≡_};
 ghost use mathlib.Core.Bool.{_&&_};
-ghost use Prim.Native.Nat.{ℕ, _+_, _*_, _-_, _^_, _≤_, _<_};
+ghost use Prim.Native.Nat.{ℕ, _+_, _*_, _≤_, _<_};
 ghost use lib.Dec.{ltb};
 ghost use Rattle.crumbmap.specs.Layouts.{backyards};
 ghost use Rattle.crumbmap.specs.CrumbMap.{firstHome, secondHome, home};

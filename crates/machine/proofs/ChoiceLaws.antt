@@ -1,6 +1,6 @@
 -- Which choice a member behind a front bucket carries: the one that an overflow takes is allowed (`chosen-allowed`), and so is that of every member
 -- of a sound bucket (`member-allowed`). Where b0 = b1 none carries choice 0: `first-bare`, `first-none`.
-use mathlib.Core.Path.{_≡_, refl, sym, ap, _∙_}
+use mathlib.Core.Path.{_≡_, refl, ap}
 use Prim.Native.Nat.{ℕ, _+_, _*_, _%_, _≤_, _<_}
 use mathlib.Core.Logic.{_⊎_, inl, inr}
 use mathlib.Core.Bool.{Bool, true, false, cond, not, false≢true}
@@ -9,7 +9,6 @@ use mathlib.Core.Option.{none, some}
 use native.Mathlib.Nat.{eq-zero-or-pos}
 use native.Mathlib.Omega.{arith}
 use native.Mathlib.Decide.{ℕ-discrete}
-use lib.ListN.{length}
 use lib.Dec.{T, ltb}
 use mir.Facts.{and-yes}
 use borrow.Author.Tests.{ltb-true, eqb-true}
@@ -32,21 +31,19 @@ module _ (B f : ℕ) where
   unfolding coincide
   same-bucket c = eqb-true (firstBucket f) (secondBucket B f) c
 
-  pub reads-least : 2 ≤ readsBehind B f
+  range : (2 ≤ readsBehind B f) × (readsBehind B f ≤ 3)
   unfolding readsBehind
-  reads-least = go (coincide B f)
+  range = go (coincide B f)
     where
-      go : (b : Bool) → 2 ≤ cond b 2 3
-      go true = omega arith
-      go false = omega arith
+      go : (b : Bool) → (2 ≤ cond b 2 3) × (cond b 2 3 ≤ 3)
+      go true = (omega arith, omega arith)
+      go false = (omega arith, omega arith)
+
+  pub reads-least : 2 ≤ readsBehind B f
+  reads-least = range .0
 
   pub reads-most : readsBehind B f ≤ 3
-  unfolding readsBehind
-  reads-most = go (coincide B f)
-    where
-      go : (b : Bool) → cond b 2 3 ≤ 3
-      go true = omega arith
-      go false = omega arith
+  reads-most = range .1
 
   pub reads-same : coincide B f ≡ true → readsBehind B f ≡ 2
   unfolding readsBehind

@@ -1,5 +1,4 @@
 -- `valid_crumbs` puts the valid digits of both choices side by side.
-use native.Mathlib.Omega.{arith}
 use borrow.Author.Needs.{needs}
 use Rattle.crumbmap.proofs.MarkLaws.{marks-home}
 use Rattle.crumbmap.proofs.valid.valid_crumbs.Statement.{statement}
