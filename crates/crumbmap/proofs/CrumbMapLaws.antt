@@ -1,5 +1,6 @@
 -- The map and its way back undo each other, for every choice that a front bucket's members may carry; numbers are in range; no two front buckets
--- share a (bucket, crumb). Main results: `home-bucketOf`, `bucketOf-home`, `home-first`, `home-second`, `bucketOf-lt`, `crumbOf-lt`, `home-lt`, `front-unique`, `choice-unique`.
+-- share a (bucket, crumb). Main results: `home-bucketOf`, `bucketOf-home`, `home-first`, `home-second`, `bucketOf-lt`, `crumbOf-lt`, `home-lt`,
+-- `front-unique`, `choice-unique`.
 use mathlib.Core.Path.{_≡_, refl, sym, _∙_}
 use Prim.Native.Nat.{ℕ, zero, suc, _+_, _*_, _/_, _%_, _≤_, _<_}
 use mathlib.Core.Bool.{Bool, true, false, cond, not, _&&_}

@@ -53,7 +53,7 @@ crowded = put 0 heap (put 8 (padded 64 (digits 256 8 (2 ^ 58 - 2 ^ 22) ++ (repli
 hasty : List ℕ
 hasty = putBack layout1 1 0 (1 ∷ []) empty
 
--- front bucket 1 full, b0 = 0 and b1 = 1, and behind it a member of its own with choice 0, or one of front bucket 0, b0 = b1 = 0, with choice 0
+-- front bucket 1 full, b0 = 0 and b1 = 1, and behind it a member with choice 0: its own by crumb 1, or by crumb 0 one of front bucket 0, b0 = b1 = 0
 beside : ℕ → List ℕ
 beside crumb = putBack layout1 1 0 (crumb ∷ []) (put 1 heap empty)
 

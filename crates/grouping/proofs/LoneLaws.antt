@@ -1,5 +1,6 @@
 -- A lone ask by what was read and found, for any layout: settled by its front bucket (`near-front`, `near-none`, `near-shared`), or behind it by what
--- is read and found in b0 and then in b1 (`first-found`, `second-found`, `none-found`); and what of it a group shares (`shares`, `keeps`, `bars`, `same-shared`).
+-- is read and found in b0 and then in b1 (`first-found`, `second-found`, `none-found`); and what of it a group shares (`shares`, `keeps`, `bars`,
+-- `same-shared`).
 use mathlib.Core.Path.{_≡_, refl, sym, ap, _∙_}
 use Prim.Native.Nat.{ℕ, suc, _+_, _*_, _^_, _≤_, _<_, max}
 use mathlib.Core.Bool.{Bool, true, false, _&&_}

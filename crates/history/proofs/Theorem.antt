@@ -4,7 +4,8 @@
 -- merge of two is refused only when full (`merge-refused-only-full`); no call gets 11 or 12 (`no-tail-number`), 13 comes exactly at the top count
 -- (`spent-at-top`), and 14 exactly where a page's count is not the image's (`stale-refused`); one with that count and room enough is accepted
 -- (`page-accepted`); new, old, new gives the image with change count 0 (`image-said`, `new-old-new`); what the copies of an ask tell of the ledger
--- (`copies-told`); how few reads there are where b0 = b1 (`ask-reads-once`, `count-reads-once`); an occupancy page tells the ledger (`occupancy-said`, `page-long`, `line-said`, `line-shows`).
+-- (`copies-told`); how few reads there are where b0 = b1 (`ask-reads-once`, `count-reads-once`); an occupancy page tells the ledger
+-- (`occupancy-said`, `page-long`, `line-said`, `line-shows`).
 use mathlib.Core.Path.{_≡_, refl, sym, _∙_}
 use mathlib.Core.Logic.{_⊎_, inl, inr, _↔_}
 use Prim.Native.Nat.{ℕ, _+_, _*_, _^_, _≤_, _<_}

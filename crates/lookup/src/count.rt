@@ -1,4 +1,5 @@
-// Count: "those in Front(f), 1 read; if Front(f) holds 28 and g is not below its largest, those in First(f) and Second(f) too, 3 reads".
+// Count: "those in Front(f), 1 read; if Front(f) holds 28 and g is not below its largest, those in First(f) and Second(f) too, 3 reads", and 2 where
+// b0 = b1.
 
 use crate::Sought;
 use crate::seek::seek;

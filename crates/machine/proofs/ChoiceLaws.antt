@@ -1,13 +1,12 @@
 -- Which choice a member behind a front bucket carries: the one that an overflow takes is allowed (`chosen-allowed`), and so is that of every member
--- of a sound bucket (`member-allowed`). Where b0 = b1 none carries choice 0: `first-bare`, `first-none`.
+-- of a sound bucket (`member-allowed`). Where b0 = b1 none carries choice 0 (`first-bare`, `first-absent`), and one bucket less is read (`reads-same`,
+-- `reads-apart`).
 use mathlib.Core.Path.{_≡_, refl, ap}
 use Prim.Native.Nat.{ℕ, _+_, _*_, _%_, _≤_, _<_}
-use mathlib.Core.Logic.{_⊎_, inl, inr}
 use mathlib.Core.Bool.{Bool, true, false, cond, not, false≢true}
 use mathlib.Core.List.{List, [], _∷_}
 use mathlib.Core.Option.{none, some}
-use native.Mathlib.Nat.{eq-zero-or-pos}
-use native.Mathlib.Omega.{arith}
+use native.Mathlib.Omega.{arith, by-contra}
 use native.Mathlib.Decide.{ℕ-discrete}
 use lib.Dec.{T, ltb}
 use mir.Facts.{and-yes}
@@ -31,20 +30,6 @@ module _ (B f : ℕ) where
   unfolding coincide
   same-bucket c = eqb-true (firstBucket f) (secondBucket B f) c
 
-  range : (2 ≤ readsBehind B f) × (readsBehind B f ≤ 3)
-  unfolding readsBehind
-  range = go (coincide B f)
-    where
-      go : (b : Bool) → (2 ≤ cond b 2 3) × (cond b 2 3 ≤ 3)
-      go true = (omega arith, omega arith)
-      go false = (omega arith, omega arith)
-
-  pub reads-least : 2 ≤ readsBehind B f
-  reads-least = range .0
-
-  pub reads-most : readsBehind B f ≤ 3
-  reads-most = range .1
-
   pub reads-same : coincide B f ≡ true → readsBehind B f ≡ 2
   unfolding readsBehind
   reads-same c = rw c
@@ -52,6 +37,19 @@ module _ (B f : ℕ) where
   pub reads-apart : coincide B f ≡ false → readsBehind B f ≡ 3
   unfolding readsBehind
   reads-apart c = rw c
+
+  range : (2 ≤ readsBehind B f) × (readsBehind B f ≤ 3)
+  range = go (coincide B f) refl
+    where
+      go : (b : Bool) → coincide B f ≡ b → (2 ≤ readsBehind B f) × (readsBehind B f ≤ 3)
+      go true c = rw (reads-same c) (omega arith, omega arith)
+      go false c = rw (reads-apart c) (omega arith, omega arith)
+
+  pub reads-least : 2 ≤ readsBehind B f
+  reads-least = range .0
+
+  pub reads-most : readsBehind B f ≤ 3
+  reads-most = range .1
 
 -- ---- the choice that takes an overflow: a tie takes Second, and one bucket ties with itself
 
@@ -91,13 +89,9 @@ module _ (B f : ℕ) (h : f < fronts B) where
 
   -- First(f) has none
   pub first-bare : coincide B f ≡ true → (v : ℕ) (ys : List ℕ) → T (valid B (firstBucket f) ys) → copies (v * 16 + firstCrumb f) ys ≡ 0
-  first-bare c v ys l = go (eq-zero-or-pos (copies (v * 16 + firstCrumb f) ys))
-    where
-      go : (copies (v * 16 + firstCrumb f) ys ≡ 0) ⊎ (0 < copies (v * 16 + firstCrumb f) ys) → copies (v * 16 + firstCrumb f) ys ≡ 0
-      go (inl e) = e
-      go (inr p) = let q = rw c at (member-allowed true v ys l p) in absurd (false≢true q)
+  first-bare c v ys l = omega (arith, by-contra (copies (v * 16 + firstCrumb f) ys) 0 (λ p. false≢true (rw c at (member-allowed true v ys l p))))
 
   -- in any image
-  pub first-none : (L : Layout) (img : List ℕ) → coincide B f ≡ true → (v : ℕ) (ys : List ℕ) → backAt L B (firstBucket f) img ≡ accepted ys
+  pub first-absent : (L : Layout) (img : List ℕ) → coincide B f ≡ true → (v : ℕ) (ys : List ℕ) → backAt L B (firstBucket f) img ≡ accepted ys
       → foundIn (v * 16 + firstCrumb f) ys ≡ none
-  first-none L img c v ys e = found-none (v * 16 + firstCrumb f) ys (first-bare c v ys (back-sound L B (firstBucket f) img ys e .crumbs))
+  first-absent L img c v ys e = found-none (v * 16 + firstCrumb f) ys (first-bare c v ys (back-sound L B (firstBucket f) img ys e .crumbs))

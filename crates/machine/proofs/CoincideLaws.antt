@@ -1,5 +1,6 @@
 -- Front buckets whose two backyard buckets coincide, b0 = b1. In any image an ask there has at most 2 reads and never ends in First, and a count has at
--- most 2 reads (`ask-once`, `count-once`), since what goes behind comes to Second (`behind-same`, `count-same`); in a good one no member stands in First (`none-first`).
+-- most 2 reads (`ask-once`, `count-once`); what goes behind comes to Second at once (`behind-same`, `count-same`). In a good image no member stands in
+-- First (`none-first`).
 use mathlib.Core.Path.{_≡_, refl, ap}
 use Prim.Native.Nat.{ℕ, _+_, _*_, _≤_, _<_}
 use mathlib.Core.Bool.{Bool, true, false, cond, _&&_}
@@ -21,9 +22,9 @@ use Rattle.machine.proofs.AcceptedLaws.{same-answer, andThen-accepted}
 use Rattle.machine.proofs.ImageLaws.{back-sound}
 use Rattle.machine.proofs.Invariant.{Good, part}
 use Rattle.machine.proofs.OverflowLaws.{bucketOf-list}
-use Rattle.machine.proofs.ChoiceLaws.{same-bucket, reads-same, first-bare, first-none}
+use Rattle.machine.proofs.ChoiceLaws.{same-bucket, reads-same, first-bare, first-absent}
 use Rattle.machine.proofs.AskLaws.{askBehind}
-use Rattle.machine.proofs.RowLaws.{of-read, of-search, of-test}
+use Rattle.machine.proofs.RowLaws.{of-read, of-search, of-test, asked-most}
 
 -- a place other than first
 abbrev isFirst : Place → ℕ
@@ -32,9 +33,6 @@ isFirst (front i) = 0
 isFirst (first i) = 1
 isFirst (second i) = 0
 
-once-at : (a : Asked) → a .reads ≤ 2 → isFirst (a .place) ≡ 0 → AskedOnce a
-once-at a few other = record { few = few; not-first = λ i e. omega (arith, other, ap isFirst e) }
-
 module _ (L : Layout) (B f x : ℕ) (img : List ℕ) (c : coincide B f ≡ true) where
   -- an ask that goes behind comes to Second(f) at once, unsound or not
   pub behind-same : f < fronts B → askBehind L B f x img ≡ askSecond L B f x img
@@ -42,7 +40,7 @@ module _ (L : Layout) (B f x : ℕ) (img : List ℕ) (c : coincide B f ≡ true)
   behind-same h = go (backAt L B (firstBucket f) img) refl
     where
       go : (r : Result (List ℕ)) → backAt L B (firstBucket f) img ≡ r → askBehind L B f x img ≡ askSecond L B f x img
-      go (accepted ys) e = rw (e, first-none B f h L img c x ys e)
+      go (accepted ys) e = rw (e, first-absent B f h L img c x ys e)
       go (refused n i) e = rw (e, rw (same-bucket B f c) at e)
 
   -- and so does a count
@@ -60,31 +58,33 @@ module _ (L : Layout) (B f x : ℕ) (img : List ℕ) (c : coincide B f ≡ true)
           rw (e, rw (same-bucket B f c) at e) (ap (counted 2) (omega arith))
       go (refused n i) e = rw (e, rw (same-bucket B f c) at e)
 
-  -- what is true of an accepted ask
-  abbrev Once : Result Asked → Type 0
-  Once (accepted a) = AskedOnce a
-  Once (refused n i) = Unit {0}
+  -- an ask that is accepted does not end in First
+  abbrev Elsewhere : Result Asked → Type 0
+  Elsewhere (accepted a) = isFirst (a .place) ≡ 0
+  Elsewhere (refused n i) = Unit {0}
 
-  once : f < fronts B → Once (askAt L B f x img)
+  elsewhere : f < fronts B → Elsewhere (askAt L B f x img)
   unfolding askAt askSecond frontAt backAt
-  once h =
-      of-read Once f (frontMembers L (bucketAt f img)) tt λ xs e.
-      of-search Once (foundIn x xs) (λ s d. once-at _ (omega arith) refl) (of-test Once (eqb (length xs) (L .frontSlots) && ltb (largest xs) x)
-      (of-read Once (fronts B + firstBucket f) (back (firstBucket f)) tt λ ys r.
-      of-search Once (foundIn (x * 16 + firstCrumb f) ys) (λ s d. bare ys r d)
-      (of-read Once (fronts B + secondBucket B f) (back (secondBucket B f)) tt λ zs q.
-      of-search Once (foundIn (x * 16 + secondCrumb f) zs) (λ s d. once-at _ (omega (arith, reads-same B f c)) refl)
-      (once-at _ (omega (arith, reads-same B f c)) refl)))
-      (once-at _ (omega arith) refl))
+  elsewhere h =
+      of-read Elsewhere f (frontMembers L (bucketAt f img)) tt λ xs e.
+      of-search Elsewhere (foundIn x xs) (λ s d. refl) (of-test Elsewhere (eqb (length xs) (L .frontSlots) && ltb (largest xs) x)
+      (of-read Elsewhere (fronts B + firstBucket f) (back (firstBucket f)) tt λ ys r.
+      of-search Elsewhere (foundIn (x * 16 + firstCrumb f) ys) (λ s d. bare ys r d)
+      (of-read Elsewhere (fronts B + secondBucket B f) (back (secondBucket B f)) tt λ zs q.
+      of-search Elsewhere (foundIn (x * 16 + secondCrumb f) zs) (λ s d. refl) refl))
+      refl)
     where
       back : ℕ → Option (List ℕ)
       back j = backMembers L B j (bucketAt (fronts B + j) img)
 
-      bare : (ys : List ℕ) {s : Found} {a : Asked} → backAt L B (firstBucket f) img ≡ accepted ys → foundIn (x * 16 + firstCrumb f) ys ≡ some s → AskedOnce a
-      bare ys r d = let n = first-none B f h L img c x ys r in let z : _≡_ {A = ℕ} 0 1 = cc in absurd (omega arith)
+      bare : (ys : List ℕ) {s : Found} {n m : ℕ} → backAt L B (firstBucket f) img ≡ accepted ys → foundIn (x * 16 + firstCrumb f) ys ≡ some s → n ≡ m
+      bare ys r d = let n = first-absent B f h L img c x ys r in let z : _≡_ {A = ℕ} 0 1 = cc in absurd (omega arith)
 
   pub ask-once : f < fronts B → {a : Asked} → askAt L B f x img ≡ accepted a → AskedOnce a
-  ask-once h e = rw e at (once h)
+  ask-once h e = record {
+    few = omega (arith, asked-most L B f x img e, reads-same B f c);
+    not-first = λ i q. omega (arith, rw e at (elsewhere h), ap isFirst q);
+  }
 
   pub count-once : {n : Counted} → countAt L B f x img ≡ accepted n → n .reads ≤ 2
   unfolding countAt

@@ -1,5 +1,5 @@
--- A row of asks, for any layout: the sums of groups (`apart`, `alike`, `least`, `unopened`), how an ask ends (`ask-ends`, `asked-most`, `asked-few`, `ask-refused`),
--- how a row ends (`row-answered`, `asks-split`), and how large its results are (`row-total`, `row-refused`).
+-- A row of asks, for any layout: the sums of groups (`apart`, `alike`, `least`, `unopened`), how an ask ends (`ask-ends`, `asked-most`, `asked-few`,
+-- `ask-refused`), how a row ends (`row-answered`, `asks-split`), and how large its results are (`row-total`, `row-refused`).
 use mathlib.Core.Path.{_≡_, refl, sym, _∙_}
 use Prim.Native.Nat.{ℕ, _+_, _*_, _^_, _≤_, _<_, max}
 use mathlib.Core.Bool.{Bool, true, false, cond, _&&_}

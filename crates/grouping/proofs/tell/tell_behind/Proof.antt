@@ -23,8 +23,8 @@ use Rattle.grouping.proofs.GroupLaws.{back-read}
 use Rattle.grouping.proofs.tell.tell_behind.Statement.{statement}
 use Rattle.grouping.proofs.tell.tell_behind.Tie as tie
 
--- the points of the walk: it is in b1, or not; it was sought there; where that is; how many are read then; it is not in b0, or is; it was sought there; where that is; the bytes
--- are known; the start
+-- the points of the walk: it is in b1, or not; it was sought there; where that is; how many are read then; it is not in b0, or is; it was sought
+-- there; where that is; the bytes are known; the start
 abbrev told2 : tie.After-known-told2 → tie.After-seek-at2
 told2 c = c .before .before .before
 
