@@ -9,6 +9,7 @@ use edits::edit::swap_front;
 use edits::write::write_front;
 use minifilter::Reading;
 use minifilter::read::read_front;
+use minifilter::read::sound_front;
 use search::find::count_front;
 ghost use mathlib.Core.Path.{_≡_};
 ghost use Prim.Native.Nat.{_+_, _*_, _<_, _≤_};
@@ -25,6 +26,14 @@ pub fn read_front_at(image: &[u8], front: Front, key: u32) -> Reading
     ensures { λ r. ⌜ FrontSays layout1 (front .0) key (now (image .entry)) r ⌝ }
 {
     read_front(bucket(image, front.0), key)
+}
+
+// The same where nobody asks for a key.
+pub fn sound_front_at(image: &[u8], front: Front) -> Reading
+    requires { ⌜ 64 * front .0 + 64 ≤ length (now image) ⌝ }
+    ensures { λ r. ⌜ FrontSays layout1 (front .0) 0 (now (image .entry)) r ⌝ }
+{
+    sound_front(bucket(image, front.0))
 }
 
 // A key joins a front bucket that has a free slot, behind the members below it.

@@ -13,7 +13,7 @@ use crumbmap::map::second_of;
 use crumbmap::map::ways_of;
 use image::BackyardReading;
 use image::back::read_backyard;
-use image::front::read_front_at;
+use image::front::sound_front_at;
 use image::place::back_bucket;
 use image::place::bucket;
 use minifilter::Reading;
@@ -36,7 +36,7 @@ pub fn count_members(image: &[u8], size: usize, front: Front) -> MemberCount
     requires { ⌜ FrontIn size (front .0) (now image) ⌝ }
     ensures { λ r. ⌜ CountSays layout1 size (front .0) (now (image .entry)) r ⌝ }
 {
-    let Reading::Members(n, _) = read_front_at(image, front, 0) else {
+    let Reading::Members(n, _) = sound_front_at(image, front) else {
         return MemberCount::Unsound(front.0);
     };
     if n < FRONT_SLOTS {

@@ -1,5 +1,6 @@
 // One 64-byte bucket: its slots, and the reader.
 
+mod quick;
 pub mod read;
 pub mod slots;
 

@@ -2,6 +2,7 @@
 
 use crate::Order;
 use crate::Reading;
+use crate::quick::passes_front;
 use crate::slots;
 use crumbmap::Backyard;
 use crumbmap::layout::BACK_SLOTS;
@@ -27,6 +28,18 @@ pub fn read_front(b: &[u8], key: u32) -> Reading
     ensures { λ r. ⌜ r ≡ readingOf key (frontMembers layout1 (now (b .entry))) ⌝ }
 {
     read_slots(b, FRONT_SLOTS, false, key)
+}
+
+// A front bucket's member count alone.
+pub fn sound_front(b: &[u8]) -> Reading
+    requires { ⌜ length (now b) ≡ 64 ⌝ }
+    ensures { λ r. ⌜ r ≡ readingOf 0 (frontMembers layout1 (now (b .entry))) ⌝ }
+{
+    let w = word::word_of(b);
+    if passes_front(b, w) {
+        return Reading::Members(word::occupancy(w), 0);
+    }
+    read_front(b, 0)
 }
 
 // Backyard bucket `bucket` of an image of size `size`.

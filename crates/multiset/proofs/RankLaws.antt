@@ -144,7 +144,7 @@ found-copies x ys s a e = ⊎-elim
 
 -- ---- `below` is a sum of copies
 
-below-zero : (ys : List ℕ) → below 0 ys ≡ 0
+pub below-zero : (ys : List ℕ) → below 0 ys ≡ 0
 unfolding below
 below-zero [] = refl
 below-zero (y ∷ ys) = below-other 0 y ys (omega arith) ∙ below-zero ys

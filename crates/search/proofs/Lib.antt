@@ -2,5 +2,4 @@
 pub mod SearchLaws
 pub mod FoundLaws
 pub mod ListLaws
-pub mod MarkLaws
 pub mod TagLaws

@@ -25,7 +25,7 @@ use Rattle.minifilter.specs.Steps.Slots.{tagAt}
 use Rattle.minifilter.proofs.HeldLaws.{Held, span-pos}
 use Rattle.search.specs.Steps.Searches.{Scanned, Marked}
 use Rattle.search.proofs.SearchLaws.{find-some}
-use Rattle.search.proofs.MarkLaws.{Run, marks-lt, run-one, run-more, run-some}
+use Rattle.minifilter.proofs.MarkLaws.{Run, marks-lt, run-one, run-more, run-some}
 
 -- ---- a key
 

@@ -18,7 +18,8 @@ ghost use Rattle.buckets.specs.Buckets.{frontList, backList};
 ghost use Rattle.words.specs.Select.{selectTable};
 ghost use Rattle.minifilter.specs.Steps.Readings.{SoundFront, SoundBack, membersOf};
 ghost use Rattle.minifilter.specs.Steps.Slots.{slotsOf, spanOf, lowAt, tagAt};
-ghost use Rattle.search.specs.Steps.Searches.{Scanned, RankOf, Seekable, marksOf, Marked, searchOf, manyIn, endOf1};
+ghost use Rattle.minifilter.specs.Steps.Marks.{marksOf};
+ghost use Rattle.search.specs.Steps.Searches.{Scanned, RankOf, Seekable, Marked, searchOf, manyIn, endOf1};
 
 // A front bucket's last slot.
 const LAST: usize = FRONT_SLOTS - 1;

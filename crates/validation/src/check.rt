@@ -11,7 +11,7 @@ use crumbmap::Front;
 use crumbmap::layout::FRONT_SLOTS;
 use crumbmap::map::home_of;
 use image::back::read_back_at;
-use image::front::read_front_at;
+use image::front::sound_front_at;
 use image::place::back_bucket;
 use image::place::bucket as bucket_of;
 use image::place::table_of;
@@ -95,7 +95,7 @@ fn count_fronts(image: &[u8], size: usize) -> Tally
     let mut free = 0;
     let mut f = 0;
     while f < end {
-        let Reading::Members(n, _) = read_front_at(image, Front(f), 0) else {
+        let Reading::Members(n, _) = sound_front_at(image, Front(f)) else {
             return Tally::Unsound(f);
         };
         free += FRONT_SLOTS - n;

@@ -51,10 +51,10 @@ select-pass (suc k) d w r h =
     (above-pass (w % 2) r k (onesIn k (w / 2)) (selectIn (k + d) (w / 2)) (selectIn d (w / 2 / 2 ^ k)) (omega arith) h
     (λ s. select-pass k d (w / 2) s))
 
-half-low : (k w : ℕ) → w % 2 ^ suc k / 2 ≡ w / 2 % 2 ^ k
+pub half-low : (k w : ℕ) → w % 2 ^ suc k / 2 ≡ w / 2 % 2 ^ k
 half-low k w = rw (← add-one k) (field w k 1)
 
-odd-low : (k w : ℕ) → w % 2 ^ suc k % 2 ≡ w % 2
+pub odd-low : (k w : ℕ) → w % 2 ^ suc k % 2 ≡ w % 2
 odd-low k w = rw (← add-one k) (mod-mod-pow w k 1)
 
 -- the k lowest bits are those of w % 2 ^ k

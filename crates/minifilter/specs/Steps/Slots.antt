@@ -1,11 +1,13 @@
 -- Every slot of a bucket at any layout, in use or not, as the reader goes over them. `crumbs` is true of a backyard bucket. The zeros of a word
 -- past its members read as one more mini-bucket, so "members ascend" and "unused bytes and halves are 0" are one statement: the slots ascend,
 -- and none is above that mini-bucket, tag 0, crumb 0.
+use mathlib.Core.Path.{_≡_}
 use Prim.Native.Nat.{ℕ, _+_, _*_, _-_, _/_, _%_, _^_}
 use mathlib.Core.Bool.{Bool, true, false, _&&_}
 use mathlib.Core.List.{List, [], _∷_, _++_}
 use mathlib.Core.Option.{Option, some, bind}
 use lib.ListN.{length, take, drop, getD, replicate}
+use lib.Count.{ones}
 use lib.Dec.{eqb}
 use Rattle.multiset.specs.Multisets.{ascending, allZero, below}
 use Rattle.multiset.specs.Digits.{value, joined}
@@ -92,6 +94,11 @@ module _ (L : Layout) (crumbs : Bool) where
       bind (slotKeys L (slotsOf L crumbs) b) (λ xs.
       let ys : List ℕ = withCrumbs crumbs xs cs in
       given (ascending ys && allZero (drop (length xs) (take (slotsOf L crumbs) cs))) (some ys))
+
+-- a word with as many ones as there are mini-buckets, over slots of a front bucket that are in order
+pub record Ordered (L : Layout) (w : ℕ) (b : List ℕ) : Type 0 where
+  pub full : ones w ≡ L .minis
+  pub order : inOrder L false w b ≡ true
 
 -- the crumb of one slot
 abbrev pub crumbAt : Layout → List ℕ → ℕ → ℕ

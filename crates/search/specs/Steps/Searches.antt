@@ -15,6 +15,7 @@ use Rattle.words.specs.Select.{selectIn}
 use Rattle.words.specs.Steps.Wide.{wordBytes1}
 use Rattle.minifilter.specs.Steps.Readings.{Sound, membersOf}
 use Rattle.minifilter.specs.Steps.Slots.{spanOf, lowAt, crumbAt, tagAt}
+use Rattle.minifilter.specs.Steps.Marks.{marksOf}
 use Rattle.search.specs.declared.Carried.{Carried}
 use Rattle.search.specs.declared.Carried.the-variants.{Key, Nothing}
 use Rattle.search.specs.declared.Cursor.{Cursor}
@@ -43,11 +44,6 @@ module _ (L : Layout) (crumbs : Bool) where
     pub stop : r ≤ past
     pub smaller : (i : ℕ) → from ≤ i → i < r → lowAt L crumbs b i < low
     pub here : r < past → low ≤ lowAt L crumbs b r
-
--- the marks of the n numbers from i on, the lowest first: 1 where f takes t
-unfoldable pub marksOf : (ℕ → ℕ) → ℕ → ℕ → ℕ → ℕ
-marksOf f t i zero = 0
-marksOf f t i (suc n) = cond (eqb (f i) t) 1 0 + 2 * marksOf f t (suc i) n
 
 -- a key of mini-bucket m and tag t stands in a front bucket, from `slot` on, and these are the marks of the slots from there on that hold t
 pub record Marked (L : Layout) (b : List ℕ) (slot m t marks : ℕ) : Type 0 where

@@ -26,10 +26,10 @@ unsound c = c .before .before .before
 abbrev full : tie.After-read-backyard → tie.After-known-told
 full c = c .before .before .before
 
-abbrev read : tie.After-known-told → tie.After-read-front-at
+abbrev read : tie.After-known-told → tie.After-sound-front-at
 read c = c .before .before .before
 
-abbrev start : tie.After-read-front-at → tie.Start
+abbrev start : tie.After-sound-front-at → tie.Start
 start c = c .before .before
 
 -- Front(f), and b0 and b1, as they were read
@@ -37,7 +37,7 @@ front : (c : tie.After-known-told) → let a = start (read c) .args in
     FrontRead layout1 (a .front .0) (a .image .now) × (length (inFront layout1 (a .front .0) (a .image .now)) ≡ c .before .n .given .0 .0)
 front c =
     let a = start (read c) .args in
-    let r = front-told layout1 (a .front .0) 0 (a .image .now) (read c .read-front-at .ensures) (c .before .n .given .1) in
+    let r = front-told layout1 (a .front .0) 0 (a .image .now) (read c .sound-front-at .ensures) (c .before .n .given .1) in
     (r .0, r .1)
 
 both : (c : tie.After-known-told3) → let a = start (read (full (sound c))) .args in let g = c .before .a .given .0 in
@@ -46,15 +46,15 @@ both c =
     let a = start (read (full (sound c))) .args in
     both-sound layout1 (a .size) (a .front .0) 0 (a .image .now) (sound c .read-backyard .ensures) (c .before .a .given .1)
 
-read-front-at-requires : tie.Need-read-front-at-requires
-read-front-at-requires c κs = (front-in (c .before .pre), omega arith)
+sound-front-at-requires : tie.Need-sound-front-at-requires
+sound-front-at-requires c κs = (front-in (c .before .pre), omega arith)
 
 returns : tie.Need-returns
 unfolding membersAt
 returns c =
     let r = c .before .before in
     let a = start r .args in
-    rw (front-unsound layout1 (a .front .0) 0 (a .image .now) (r .read-front-at .ensures) (c .enum-told .given .1))
+    rw (front-unsound layout1 (a .front .0) 0 (a .image .now) (r .sound-front-at .ensures) (c .enum-told .given .1))
 
 returns-2 : tie.Need-returns-2
 returns-2 c =
@@ -105,7 +105,7 @@ pub count-members-spec : {M : Type 1} → statement M
 count-members-spec =
     tie.close
     (tie.spec
-    read-front-at-requires
+    sound-front-at-requires
     (λ c. search needs)
     (λ c. search needs)
     returns

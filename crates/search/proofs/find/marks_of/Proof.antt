@@ -9,8 +9,8 @@ use native.Mathlib.Omega.{arith}
 use lib.Pow.{pow-mono}
 use Rattle.crumbmap.specs.Layouts.{layout1}
 use Rattle.minifilter.specs.Steps.Slots.{tagAt}
-use Rattle.search.specs.Steps.Searches.{marksOf}
-use Rattle.search.proofs.MarkLaws.{marks-hit, marks-miss}
+use Rattle.minifilter.specs.Steps.Marks.{marksOf}
+use Rattle.minifilter.proofs.MarkLaws.{marks-hit, marks-miss}
 use Rattle.search.proofs.find.marks_of.Statement.{statement}
 use Rattle.search.proofs.find.marks_of.Tie as tie
 

@@ -20,8 +20,9 @@ use Rattle.minifilter.specs.Steps.Slots.{spanOf, tagAt}
 use Rattle.buckets.proofs.ElementLaws.{below-bytes}
 use Rattle.buckets.proofs.BucketLaws.{fits1}
 use Rattle.minifilter.proofs.HeldLaws.{Held, held, held-many1, held-minis1}
-use Rattle.search.specs.Steps.Searches.{searchOf, marksOf}
-use Rattle.search.proofs.MarkLaws.{marks-none, first-mark}
+use Rattle.minifilter.specs.Steps.Marks.{marksOf}
+use Rattle.search.specs.Steps.Searches.{searchOf}
+use Rattle.minifilter.proofs.MarkLaws.{marks-none, first-mark}
 use Rattle.search.proofs.TagLaws.{tag-none, tag-there, tag-rank}
 use Rattle.search.proofs.find.seek_front.Statement.{statement}
 use Rattle.search.proofs.find.seek_front.Tie as tie

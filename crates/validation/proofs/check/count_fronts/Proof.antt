@@ -25,13 +25,13 @@ abbrev μ-loop : tie.MeasureT-loop
 μ-loop image size end free₀ f₀ free f = end - f
 
 -- the points of the walk: bucket f is sound, or not; it is read; its turn; the start
-abbrev sound : tie.After-n Inv-loop μ-loop → tie.After-read-front-at Inv-loop μ-loop
+abbrev sound : tie.After-n Inv-loop μ-loop → tie.After-sound-front-at Inv-loop μ-loop
 sound c = c .before .before
 
-abbrev unsound : tie.After-enum-told Inv-loop μ-loop → tie.After-read-front-at Inv-loop μ-loop
+abbrev unsound : tie.After-enum-told Inv-loop μ-loop → tie.After-sound-front-at Inv-loop μ-loop
 unsound c = c .before .before
 
-abbrev turn : tie.After-read-front-at Inv-loop μ-loop → tie.In-loop Inv-loop μ-loop
+abbrev turn : tie.After-sound-front-at Inv-loop μ-loop → tie.In-loop Inv-loop μ-loop
 turn c = c .before
 
 abbrev start : tie.In-loop Inv-loop μ-loop → tie.Start Inv-loop μ-loop
@@ -50,14 +50,14 @@ told : (c : tie.After-n Inv-loop μ-loop) →
     FrontRead layout1 f img × (length (inFront layout1 f img) ≡ c .n .given .0 .0)
 told c =
     let i = turn (sound c) in
-    let t = front-told layout1 (i .before .loop .f) 0 (start i .args .image .now) (sound c .read-front-at .ensures) (c .n .given .1) in
+    let t = front-told layout1 (i .before .loop .f) 0 (start i .args .image .now) (sound c .sound-front-at .ensures) (c .n .given .1) in
     (t .0, t .1)
 
 loop-holds : tie.Need-loop-holds Inv-loop μ-loop
 loop-holds c = (omega arith, omega arith, rw sub-zero, counts-none (λ (e : ℕ). frontAt layout1 e (c .before .args .image .now)) 28)
 
-read-front-at-requires : tie.Need-read-front-at-requires Inv-loop μ-loop
-read-front-at-requires c κs = (front-in (record { whole = start c .pre; front = inside c }), omega arith)
+sound-front-at-requires : tie.Need-sound-front-at-requires Inv-loop μ-loop
+sound-front-at-requires c κs = (front-in (record { whole = start c .pre; front = inside c }), omega arith)
 
 returns : tie.Need-returns Inv-loop μ-loop
 returns c =
@@ -65,7 +65,7 @@ returns c =
     let a = start i .args in
     let l = i .before .loop in
     front-stop layout1 (fronts (a .size)) (l .f) (a .image .now) (l .inv .2) (inside i)
-    (front-unsound layout1 (l .f) 0 (a .image .now) (unsound c .read-front-at .ensures) (c .enum-told .given .1))
+    (front-unsound layout1 (l .f) 0 (a .image .now) (unsound c .sound-front-at .ensures) (c .enum-told .given .1))
 
 sub-free : tie.Need-sub-free Inv-loop μ-loop
 sub-free c = let t = told (c .before) in omega (arith, t .1, t .0 .list .room)
@@ -113,7 +113,7 @@ count-fronts-spec =
     μ-loop
     (λ c. search needs)
     loop-holds
-    read-front-at-requires
+    sound-front-at-requires
     (λ c. search needs)
     (λ c. search needs)
     returns

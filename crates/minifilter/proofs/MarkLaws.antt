@@ -11,7 +11,7 @@ use lib.Dec.{eqb}
 use borrow.Author.Tests.{eq-eqb, ne-eqb}
 use lib.Bits.{bitOr, or-shifted-r}
 use lib.Count.{trailingZeros}
-use Rattle.search.specs.Steps.Searches.{marksOf}
+use Rattle.minifilter.specs.Steps.Marks.{marksOf}
 
 module _ (f : ℕ → ℕ) (t : ℕ) where
   -- one mark
@@ -78,6 +78,17 @@ module _ (f : ℕ → ℕ) (t : ℕ) where
         } in
         rw (h, even, half) q
   ]
+
+  -- a mark by its place
+  pub mark-set : (i n j : ℕ) → j < n → f (i + j) ≡ t → marksOf f t i n / 2 ^ j % 2 ≡ 1
+  unfolding marksOf
+  mark-set i zero j h e = absurd (omega arith)
+  mark-set i (suc n) zero h e = omega (arith, mark-yes i (rw (add-zero i) at e), div-one (mark i + 2 * marksOf f t (suc i) n))
+  mark-set i (suc n) (suc j) h e =
+      let m : ℕ = marksOf f t (suc i) n in
+      let half : (mark i + 2 * m) / 2 ≡ m = elim (ℕ-discrete (f i) t) [ yes y ↦ omega (arith, mark-yes i y) | no y ↦ omega (arith, mark-no i y) ] in
+      let next : suc i + j ≡ i + suc j = omega arith in
+      rw (pow-succ' 2 j, ← div-div-eq-div-mul (mark i + 2 * m) 2 (2 ^ j), half) (mark-set (suc i) n j (omega arith) (rw next e))
 
   -- no mark
   pub marks-none : (i n : ℕ) → marksOf f t i n ≡ 0 → (j : ℕ) → i ≤ j → j < i + n → f j ≡ t → ⊥

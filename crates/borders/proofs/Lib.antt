@@ -1,0 +1,2 @@
+-- Laws of the zeros below a one.
+pub mod BorderLaws

@@ -1,0 +1,2 @@
+-- Inner steps: a word's zeros below a one.
+pub mod Borders

@@ -1,0 +1,239 @@
+-- Why the quick test of a front bucket suffices, at any layout: where each slot whose tag is above the next one's stands right below a one of the
+-- word, and what is past the members is 0, the slots are in order. Main results: `covered`, `slots-rise`, `quick-order`.
+use mathlib.Core.Path.{_≡_, refl, sym, _∙_, ap}
+use Prim.Native.Nat.{ℕ, zero, suc, _+_, _*_, _-_, _/_, _%_, _^_, _≤_, _<_}
+use mathlib.Core.Bool.{Bool, true, false}
+use mathlib.Core.Logic.{_⊎_, ⊎-elim}
+use mathlib.Core.List.{List, [], _∷_, _++_}
+use native.Mathlib.Nat.{zero-add, pow-succ', mul-le-mul-right, div-div-eq-div-mul, div-one, zero-div}
+use native.Mathlib.Omega.{arith, by-contra}
+use lib.ListN.{length, getD, replicate}
+use lib.Pow.{pow-pos, pow-mono}
+use lib.Count.{ones, onesIn}
+use lib.Bits.{bitAnd, and-step}
+use lib.Dec.{leb}
+use borrow.Author.Tests.{le-leb, lt-ltb, le-ltb}
+use Rattle.multiset.specs.Multisets.{ascending, atLeast, Below}
+use Rattle.crumbmap.specs.Layouts.{Layout, layout1, tags}
+use Rattle.buckets.specs.Buckets.{Fits64}
+use Rattle.borders.specs.Steps.Borders.{zerosIn, endsIn, bordersIn}
+use Rattle.minifilter.specs.Steps.Slots.{endOf, bitsOf, zerosOf, tagsOf, tagAt, minisOf, slotMinis, slotMembers, inOrder, Ordered}
+use Rattle.minifilter.specs.Steps.Marks.{marksOf, fallAt}
+use Rattle.buckets.proofs.WordLaws.{Run, Coded, done, member, end, coded-run, coded-lt, coded-minisIn, minisIn-run, run-at}
+use Rattle.multiset.proofs.MultisetLaws.{below-at}
+use Rattle.buckets.proofs.SlotBytes.{below-tagsIn, length-tagsIn}
+use Rattle.buckets.proofs.BucketLaws.{fits1}
+use Rattle.words.proofs.SelectLaws.{ones-low}
+use Rattle.words.proofs.ByteLaws.{ones-split}
+use Rattle.borders.proofs.BorderLaws.{zeros-ones, ends-lt}
+use Rattle.minifilter.proofs.MarkLaws.{marks-lt, mark-set}
+use Rattle.minifilter.proofs.PassLaws.{tag-in, bits-room, length-slotMinis, slotMinis-run, slotMinis-used, length-slotMembers, slotMembers-at}
+
+-- ---- a bit of a number
+
+bit-suc : (x i : ℕ) → x / 2 ^ suc i ≡ x / 2 / 2 ^ i
+bit-suc x i = rw (pow-succ' 2 i) (sym (div-div-eq-div-mul x 2 (2 ^ i)))
+
+-- where x and what y lacks have no bit in common, y has every bit that x has
+pub covered : (k x y i : ℕ) → x < 2 ^ k → y < 2 ^ k → bitAnd x (2 ^ k - 1 - y) ≡ 0 → x / 2 ^ i % 2 ≡ 1 → y / 2 ^ i % 2 ≡ 1
+covered zero x y i h l e b = let z : x ≡ 0 = omega arith in absurd (omega (arith, rw z at b, zero-div (2 ^ i)))
+covered (suc k) x y zero h l e b =
+    let n : ℕ = 2 ^ suc k - 1 - y in
+    omega (arith, e, and-step x n, pow-succ' 2 k, div-one x, div-one y)
+covered (suc k) x y (suc i) h l e b =
+    let n : ℕ = 2 ^ suc k - 1 - y in
+    let half : n / 2 ≡ 2 ^ k - 1 - y / 2 = omega (arith, pow-succ' 2 k) in
+    let none : bitAnd (x / 2) (n / 2) ≡ 0 = omega (arith, e, and-step x n) in
+    rw (bit-suc y i)
+    (covered k (x / 2) (y / 2) i (omega (arith, pow-succ' 2 k)) (omega (arith, pow-succ' 2 k)) (rw half at none) (rw (bit-suc x i) at b))
+
+-- a higher power of two changes no bit below it
+pub bit-below : (x k i : ℕ) → i < k → (2 ^ k + x) / 2 ^ i % 2 ≡ x / 2 ^ i % 2
+bit-below x zero i h = absurd (omega arith)
+bit-below x (suc k) zero h = omega (arith, div-one x, div-one (2 ^ suc k + x), pow-succ' 2 k)
+bit-below x (suc k) (suc i) h =
+    let half : (2 ^ suc k + x) / 2 ≡ 2 ^ k + x / 2 = omega (arith, pow-succ' 2 k) in
+    rw (bit-suc (2 ^ suc k + x) i, bit-suc x i, half) (bit-below (x / 2) k i (omega arith))
+
+-- ---- a zero right below a one stands over an earlier mini-bucket than the next zero
+
+ends-none : (d : ℕ) → endsIn d 0 ≡ 0
+unfolding endsIn
+ends-none zero = refl
+ends-none (suc d) = omega (arith, ends-none d)
+
+-- what stands behind a one is of a later mini-bucket
+next-later : {n m : ℕ} {ms : List ℕ} {w : ℕ} → Coded (suc n) m ms w → (p : ℕ) → w % 2 ≡ 1 → 0 < length ms + p
+    → m < getD (ms ++ replicate p (m + suc n)) 0 0
+next-later (member c) p o h = absurd (omega arith)
+next-later (end {n = n} {m = m} {ms = []} c) zero o h = absurd (omega arith)
+next-later (end {n = n} {m = m} {ms = []} c) (suc p) o h = omega arith
+next-later (end {n = n} {m = m} {ms = x ∷ xs} c) p o h = omega (arith, coded-run c .0)
+
+ends-rise : {n m : ℕ} {ms : List ℕ} {w : ℕ} → Coded n m ms w → (p d i : ℕ) → endsIn d w / 2 ^ i % 2 ≡ 1 → suc i < length ms + p
+    → getD (ms ++ replicate p (m + n)) i 0 < getD (ms ++ replicate p (m + n)) (suc i) 0
+unfolding endsIn
+ends-rise done p d i b h = absurd (omega (arith, rw (ends-none d) at b, zero-div (2 ^ i)))
+ends-rise (member c) p zero i b h = absurd (omega (arith, zero-div (2 ^ i)))
+ends-rise (member {n = n} {m = m} {ms = ms} {w = w} c) p (suc d) zero b h =
+    let even : 2 * w % 2 ≡ 0 = omega arith in
+    let half : 2 * w / 2 ≡ w = omega arith in
+    next-later c p (omega (arith, rw (even, half) at b, div-one (w % 2 + 2 * endsIn d w))) (omega arith)
+ends-rise (member {n = n} {m = m} {ms = ms} {w = w} c) p (suc d) (suc i) b h =
+    let even : 2 * w % 2 ≡ 0 = omega arith in
+    let half : 2 * w / 2 ≡ w = omega arith in
+    let rest : (w % 2 + 2 * endsIn d w) / 2 ≡ endsIn d w = omega arith in
+    ends-rise c p d i (rw (bit-suc (w % 2 + 2 * endsIn d w) i, rest) at (rw (even, half) at b)) (omega arith)
+ends-rise (end c) p zero i b h = absurd (omega (arith, zero-div (2 ^ i)))
+ends-rise (end {n = n} {m = m} {ms = ms} {w = w} c) p (suc d) i b h =
+    let odd : (1 + 2 * w) % 2 ≡ 1 = omega arith in
+    let half : (1 + 2 * w) / 2 ≡ w = omega arith in
+    let e : m + suc n ≡ suc m + n = omega arith in
+    rw e (ends-rise c p d i (rw (odd, half) at b) h)
+
+run-rise : (lo hi i : ℕ) (ms : List ℕ) → Run lo hi ms → suc i < length ms → getD ms i 0 ≤ getD ms (suc i) 0
+run-rise lo hi i [] r h = absurd (omega arith)
+run-rise lo hi zero (m ∷ []) r h = absurd (omega arith)
+run-rise lo hi zero (m ∷ x ∷ ms) r h = r .2 .0
+run-rise lo hi (suc i) (m ∷ ms) r h = run-rise m hi i ms (r .2) (omega arith)
+
+module _ (L : Layout) (crumbs : Bool) (w : ℕ) (small : w < 2 ^ bitsOf L crumbs) (full : ones w ≡ L .minis) where
+  pub slots-rise : (d i : ℕ) → endsIn d w / 2 ^ i % 2 ≡ 1 → suc i < zerosOf L crumbs
+      → getD (slotMinis L crumbs w) i 0 < getD (slotMinis L crumbs w) (suc i) 0
+  unfolding slotMinis
+  slots-rise d i b h =
+      let c = coded-minisIn (bitsOf L crumbs) (L .minis) w small full in
+      let p : ℕ = zerosOf L crumbs - length (minisOf L crumbs w) in
+      rw (zero-add (L .minis)) at (ends-rise (c .0) p d i b (omega (arith, c .1)))
+
+-- ---- in order, slot by slot
+
+ascending-pairs : (ks : List ℕ) (e : ℕ) → ((i : ℕ) → suc i < length ks → getD ks i 0 ≤ getD ks (suc i) 0)
+    → ((i : ℕ) → suc i ≡ length ks → getD ks i 0 ≤ e) → ascending (ks ++ (e ∷ [])) ≡ true
+unfolding ascending atLeast
+ascending-pairs [] e p l = refl
+ascending-pairs (x ∷ []) e p l = rw (le-leb x e (l 0 refl))
+ascending-pairs (x ∷ y ∷ ks) e p l =
+    rw (le-leb x y (p 0 (omega arith)))
+    (ascending-pairs (y ∷ ks) e (λ i h. p (suc i) (omega arith)) (λ i h. l (suc i) (omega arith)))
+
+module _ (L : Layout) (fits : Fits64 L) (b : List ℕ) (long : length b ≡ 64) (w : ℕ) (small : w < 2 ^ bitsOf L false) (full : ones w ≡ L .minis)
+    (range : (i : ℕ) → i < L .frontSlots → tagAt L false b i < tags L) where
+  abbrev mini : ℕ → ℕ
+  mini i = getD (slotMinis L false w) i 0
+
+  abbrev tag : ℕ → ℕ
+  tag i = tagAt L false b i
+
+  pair-order : (i : ℕ) → suc i < L .frontSlots → (tag (suc i) < tag i → mini i < mini (suc i)) → mini i * tags L + tag i ≤ mini (suc i) * tags L + tag (suc i)
+  pair-order i h rise = by-contra (mini i * tags L + tag i) (mini (suc i) * tags L + tag (suc i)) (λ o.
+      let flat : mini i ≤ mini (suc i) =
+      run-rise 0 (suc (L .minis)) i (slotMinis L false w) (slotMinis-run L false w small full)
+      (rw (length-slotMinis L false w small full) (omega (arith, bits-room L false))) in
+      let up : mini i < mini (suc i) = rise (omega (arith, mul-le-mul-right (tags L) flat)) in
+      omega (arith, mul-le-mul-right (tags L) up, range i (omega arith)))
+
+  -- tags that fall do so at the end of a mini-bucket alone, and the last slot is not above the end
+  pub quick-order : ((i : ℕ) → suc i < L .frontSlots → tag (suc i) < tag i → mini i < mini (suc i))
+      → ((i : ℕ) → suc i ≡ L .frontSlots → mini i * tags L + tag i ≤ endOf L false) → inOrder L false w b ≡ true
+  unfolding inOrder
+  quick-order rise last =
+      let many = length-slotMembers L fits b long false w small full in
+      let at : (i : ℕ) → i < L .frontSlots → getD (slotMembers L false w b) i 0 ≡ mini i * tags L + tag i = λ i h.
+      slotMembers-at L fits b long false w small full i h in
+      ascending-pairs (slotMembers L false w b) (endOf L false)
+      (λ i h. let k : suc i < L .frontSlots = rw many at h in rw (at i (omega arith), at (suc i) k) (pair-order i k (rise i k)))
+      (λ i h. let k : suc i ≡ L .frontSlots = h ∙ many in rw (at i (omega arith)) (last i k))
+
+-- ---- where tags fall
+
+module _ (L : Layout) (b : List ℕ) (i : ℕ) where
+  pub falls-here : tagAt L false b (suc i) < tagAt L false b i → fallAt L b i ≡ 1
+  unfolding fallAt
+  falls-here h = rw (lt-ltb (tagAt L false b (suc i)) (tagAt L false b i) h)
+
+  pub falls-not : tagAt L false b i ≤ tagAt L false b (suc i) → fallAt L b i ≡ 1 → ⊥
+  unfolding fallAt
+  falls-not h e = omega (arith, rw (le-ltb (tagAt L false b (suc i)) (tagAt L false b i) h) at e)
+
+-- ---- layout 1: what the code tests
+
+-- a number whose leading one is its bit k
+leading-one : (z k e : ℕ) → e < 2 ^ z → (2 ^ z + e) / 2 ^ k ≡ 1 → z ≡ k
+leading-one zero zero e l h = refl
+leading-one (suc z) zero e l h = absurd (omega (arith, div-one (2 ^ suc z + e), pow-succ' 2 z, pow-pos z))
+leading-one zero (suc k) e l h =
+    let one : (1 + e) / 2 ≡ 0 = omega arith in
+    absurd (omega (arith, rw (bit-suc (1 + e) k, one) at h, zero-div (2 ^ k)))
+leading-one (suc z) (suc k) e l h =
+    let half : (2 ^ suc z + e) / 2 ≡ 2 ^ z + e / 2 = omega (arith, pow-succ' 2 z) in
+    ap suc (leading-one z k (e / 2) (omega (arith, pow-succ' 2 z)) (rw (bit-suc (2 ^ suc z + e) k, half) at h))
+
+double-bit : (x i : ℕ) → 2 * x / 2 ^ suc i ≡ x / 2 ^ i
+double-bit x i = let half : 2 * x / 2 ≡ x = omega arith in bit-suc (2 * x) i ∙ rw half
+
+ones-one : (x : ℕ) → onesIn 1 x ≡ x % 2
+unfolding onesIn
+ones-one x = omega arith
+
+-- 28 zeros, the last place's among them, leave 36 ones
+ones-all : (w : ℕ) → w < 2 ^ 64 → zerosIn 63 w ≡ 27 + w / 2 ^ 63 → ones w ≡ layout1 .minis
+ones-all w small e =
+    let all : ones w ≡ onesIn 64 w = let e : w % 2 ^ 64 ≡ w = omega arith in rw e at (ones-low 64 w) in
+    all ∙ ones-split 63 1 w ∙ rw (ones-one (w / 2 ^ 63)) (omega (arith, zeros-ones 63 w))
+
+module _ (b : List ℕ) (long : length b ≡ 64) (bytes : Below 256 b) (w bits : ℕ) (small : w < 2 ^ 64)
+    (borders : bits ≡ bordersIn 63 w) (leads : bits / 2 ^ (27 + w / 2 ^ 63) ≡ 1) where
+  zeros-are : zerosIn 63 w ≡ 27 + w / 2 ^ 63
+  zeros-are = leading-one (zerosIn 63 w) (27 + w / 2 ^ 63) (endsIn 63 w) (ends-lt 63 w) (rw borders at leads)
+
+  full-word : ones w ≡ layout1 .minis
+  full-word = ones-all w small zeros-are
+
+  pub bits-lt : bits < 2 ^ 29
+  bits-lt = omega (arith, borders, ends-lt 63 w, pow-mono {i = zerosIn 63 w} {j = 28} (omega (arith, zeros-are)))
+
+  range1 : (i : ℕ) → i < layout1 .frontSlots → tagAt layout1 false b i < tags layout1
+  range1 i h =
+      rw (tag-in layout1 false b i h) at
+      (below-at (tags layout1) i (tagsOf layout1 false b) (below-tagsIn layout1 (layout1 .frontSlots) b bytes (omega (arith, long)))
+      (rw (length-tagsIn layout1 (layout1 .frontSlots) b) h))
+
+  rises : (marks : ℕ) → marks ≡ 2 * marksOf (fallAt layout1 b) 1 0 27 → bitAnd marks (2 ^ 32 - 1 - 2 * bits) ≡ 0
+      → (i : ℕ) → suc i < layout1 .frontSlots → tagAt layout1 false b (suc i) < tagAt layout1 false b i
+      → getD (slotMinis layout1 false w) i 0 < getD (slotMinis layout1 false w) (suc i) 0
+  rises marks e none i h falls =
+      let f = fallAt layout1 b in
+      let set : marks / 2 ^ suc i % 2 ≡ 1 = rw (e, double-bit (marksOf f 1 0 27) i) (mark-set f 1 0 27 i (omega arith) (rw (zero-add i) (falls-here layout1 b i falls))) in
+      let there : bits / 2 ^ i % 2 ≡ 1 =
+      rw (double-bit bits i) at (covered 32 marks (2 * bits) (suc i) (omega (arith, marks-lt f 1 0 27)) (omega (arith, bits-lt)) none set) in
+      slots-rise layout1 false w small full-word 63 i
+      (sym (bit-below (endsIn 63 w) (zerosIn 63 w) i (omega (arith, zeros-are))) ∙ rw borders at there) (omega arith)
+
+  -- the last slot is past the members and 0, or all slots are in use
+  last-mini : (i : ℕ) → i < layout1 .frontSlots → getD (slotMinis layout1 false w) i 0 ≤ layout1 .minis
+  last-mini i h =
+      let r = run-at 0 (suc (layout1 .minis)) i (slotMinis layout1 false w) (slotMinis-run layout1 false w small full-word)
+      (rw (length-slotMinis layout1 false w small full-word) h) in
+      omega (arith, r .1)
+
+  last-used : w / 2 ^ 63 ≡ 1 → (i : ℕ) → i < layout1 .frontSlots → getD (slotMinis layout1 false w) i 0 < layout1 .minis
+  last-used t i h =
+      let c = coded-minisIn 64 (layout1 .minis) w small full-word in
+      let n : ℕ = length (minisOf layout1 false w) in
+      let many : 28 ≤ n = by-contra 28 n (λ l. omega (arith, coded-lt (c .0), pow-mono {i = 36 + n} {j = 63} (omega arith))) in
+      rw (slotMinis-used layout1 false w small full-word i (omega arith))
+      (run-at 0 (layout1 .minis) i (minisOf layout1 false w) (minisIn-run 64 (layout1 .minis) w small full-word) (omega arith) .1)
+
+  -- what the quick test finds
+  pub passed : (marks : ℕ) → marks ≡ 2 * marksOf (fallAt layout1 b) 1 0 27 → bitAnd marks (2 ^ 32 - 1 - 2 * bits) ≡ 0
+      → (w / 2 ^ 63 ≡ 1) ⊎ (tagAt layout1 false b 27 ≡ 0) → Ordered layout1 w b
+  passed marks e none last = record {
+    full = full-word;
+    order = quick-order layout1 fits1 b long w small full-word range1 (rises marks e none) (λ i h.
+        let k : i ≡ 27 = omega arith in
+        ⊎-elim
+        (λ t. omega (arith, mul-le-mul-right (tags layout1) (last-used t i (omega arith)), range1 i (omega arith)))
+        (λ z. omega (arith, mul-le-mul-right (tags layout1) (last-mini i (omega arith)), ap (tagAt layout1 false b) k, z))
+        last);
+  }
