@@ -15,7 +15,7 @@ abbrev start : tie.After-sound-front-at → tie.Start
 start c = c .before .before .before
 
 sound-front-at-requires : tie.Need-sound-front-at-requires
-sound-front-at-requires c κs = let p = c .before .before .pre in (front-in (p .0), p .1)
+sound-front-at-requires c κs = front-in (c .before .before .pre .0)
 
 returns : tie.Need-returns
 returns c =
@@ -25,14 +25,14 @@ returns c =
     let f = a .front .0 in
     bars layout1 (a .size) f (a .key) (a .image .now) (a .reads)
     (ask-unsound layout1 (a .size) f (a .key) (a .image .now)
-    (front-unsound layout1 f (a .key) (a .image .now) (k .sound-front-at .ensures) (c .enum-told2 .given .1)))
+    (front-unsound layout1 f 0 (a .image .now) (k .sound-front-at .ensures) (c .enum-told2 .given .1)))
 
 share-front-requires : tie.Need-share-front-requires
 share-front-requires c κs =
     let k = c .before .before in
     let s = start k in
     let a = s .args in
-    let told = front-told layout1 (a .front .0) (a .key) (a .image .now) (k .sound-front-at .ensures) (c .enum-told .given .1) in
+    let told = front-told layout1 (a .front .0) 0 (a .image .now) (k .sound-front-at .ensures) (c .enum-told .given .1) in
     (s .pre .0, s .pre .1, front-group (told .0), omega arith)
 
 returns-2 : tie.Need-returns-2

@@ -47,7 +47,7 @@ both c =
     both-sound layout1 (a .size) (a .front .0) 0 (a .image .now) (sound c .read-backyard .ensures) (c .before .a .given .1)
 
 sound-front-at-requires : tie.Need-sound-front-at-requires
-sound-front-at-requires c κs = (front-in (c .before .pre), omega arith)
+sound-front-at-requires c κs = front-in (c .before .pre)
 
 returns : tie.Need-returns
 unfolding membersAt

@@ -57,7 +57,7 @@ loop-holds : tie.Need-loop-holds Inv-loop μ-loop
 loop-holds c = (omega arith, omega arith, rw sub-zero, counts-none (λ (e : ℕ). frontAt layout1 e (c .before .args .image .now)) 28)
 
 sound-front-at-requires : tie.Need-sound-front-at-requires Inv-loop μ-loop
-sound-front-at-requires c κs = (front-in (record { whole = start c .pre; front = inside c }), omega arith)
+sound-front-at-requires c κs = front-in (record { whole = start c .pre; front = inside c })
 
 returns : tie.Need-returns Inv-loop μ-loop
 returns c =
