@@ -1,13 +1,17 @@
 -- What a search's answer says of the members that it was made in.
 use mathlib.Core.Path.{_≡_, refl, sym, _∙_}
-use Prim.Native.Nat.{ℕ, _<_}
+use Prim.Native.Nat.{ℕ, _≤_, _<_}
 use mathlib.Core.List.{List}
 use mathlib.Core.Option.{Option, none, some}
+use mathlib.Core.Logic.{⊎-elim}
+use native.Mathlib.Nat.{eq-zero-or-pos}
 use native.Mathlib.Omega.{arith}
+use lib.ListN.{length}
 use lib.Dec.{T}
 use Rattle.multiset.specs.Multisets.{ascending, below, copies, Found, foundIn}
-use Rattle.multiset.proofs.RankLaws.{absent-copies, found-copies}
-use Rattle.search.specs.Steps.Searches.{searchOf, manyIn}
+use Rattle.multiset.proofs.RankLaws.{absent-copies, found-copies, found-none, found-some}
+use Rattle.multiset.proofs.SlotLaws.{slot-inside}
+use Rattle.search.specs.Steps.Searches.{searchOf, manyIn, slotElse}
 use Rattle.search.specs.declared.Search.{Search}
 use Rattle.search.specs.declared.Search.the-variants.{At, Absent}
 
@@ -37,3 +41,14 @@ module _ (x : ℕ) (ys : List ℕ) (order : T (ascending ys)) {r : Search} (said
       go : (t : Search) → r ≡ t → manyIn t ≡ copies x ys
       go Absent h = sym (search-absent h)
       go (At i n) h = search-at h .1
+
+-- the slot alone, n where no copy stands, for a list of at most n members
+module _ (n x : ℕ) (ys : List ℕ) (order : T (ascending ys)) (room : length ys ≤ n) {r : ℕ} (said : r ≡ slotElse n (foundIn x ys)) where
+  there-at : 0 < copies x ys → r ≡ below x ys
+  there-at p = said ∙ rw (found-some x ys order p)
+
+  pub slot-none : r ≡ n → foundIn x ys ≡ none
+  slot-none e = ⊎-elim (λ z. found-none x ys z) (λ p. absurd (omega (arith, there-at p, slot-inside x ys order p))) (eq-zero-or-pos (copies x ys))
+
+  pub slot-some : (r ≡ n → ⊥) → (r ≡ below x ys) × (0 < copies x ys)
+  slot-some e = ⊎-elim (λ z. absurd (e (said ∙ rw (found-none x ys z)))) (λ p. (there-at p, p)) (eq-zero-or-pos (copies x ys))

@@ -19,7 +19,7 @@ ghost use Rattle.words.specs.Select.{selectTable};
 ghost use Rattle.minifilter.specs.Steps.Readings.{SoundFront, SoundBack, membersOf};
 ghost use Rattle.minifilter.specs.Steps.Slots.{slotsOf, spanOf, lowAt, tagAt};
 ghost use Rattle.minifilter.specs.Steps.Marks.{marksOf};
-ghost use Rattle.search.specs.Steps.Searches.{Scanned, RankOf, Seekable, Marked, searchOf, manyIn, endOf1};
+ghost use Rattle.search.specs.Steps.Searches.{Scanned, RankOf, Seekable, Standing, searchOf, slotElse, manyIn, endOf1};
 
 // A front bucket's last slot.
 const LAST: usize = FRONT_SLOTS - 1;
@@ -146,37 +146,52 @@ fn marks_of(b: &[u8], tag: u32) -> u32
     marks
 }
 
-// The copies of a key, by the marks of its tag from its lowest slot on: those in a row, as far as they are its mini-bucket's. Mostly there is one.
-fn copies_marked(b: &[u8], slot: usize, mini: u32, tag: u32, marks: u32) -> usize
-    requires { ⌜ Marked layout1 (now b) slot mini tag marks ⌝ }
-    ensures { λ r. ⌜ r ≡ copies (mini * tags layout1 + tag) (frontList layout1 (now (b .entry))) ⌝ }
-{
-    if marks / 2 % 2 == 0 {
-        return 1;
-    }
-    let rest = past_of(b, false, slot, mini, tag) - slot;
-    let run = u32::trailing_zeros(marks + 1) as usize;
-    if rest < run { rest } else { run }
-}
-
-// Where a key stands in a front bucket that the reader gave no slot of: at the first slot with its tag, if that is one of its mini-bucket's. Tags of
-// other mini-buckets seldom are the same; then select finds the slot.
-pub fn seek_front(b: &[u8], key: u32) -> Search
+// The lowest slot of a key in a front bucket that the reader gave no slot of, 28 where it is absent: the first slot with its tag, if that is one of its
+// mini-bucket's. Tags of other mini-buckets seldom are the same; then select finds the slot. It is a number alone, which a register hands over.
+fn slot_front(b: &[u8], key: u32) -> usize
     requires { ⌜ SoundFront layout1 (now b) × (key < keys layout1) ⌝ }
-    ensures { λ r. ⌜ r ≡ searchOf (foundIn key (frontList layout1 (now (b .entry)))) ⌝ }
+    ensures { λ r. ⌜ r ≡ slotElse (layout1 .frontSlots) (foundIn key (frontList layout1 (now (b .entry)))) ⌝ }
 {
     let mini = key / TAGS;
     let tag = key % TAGS;
     let marks = marks_of(b, tag);
     if marks == 0 {
+        return FRONT_SLOTS;
+    }
+    let slot = (u32::trailing_zeros(marks) - 1) as usize;
+    if word::is_slot_of(word::word_of(b), mini, slot) {
+        return slot;
+    }
+    let Search::At(found, _) = seek_in(b, false, mini, tag) else {
+        return FRONT_SLOTS;
+    };
+    found
+}
+
+// The copies of a key from its lowest slot on: mostly one, as the next slot's tag says.
+fn copies_front(b: &[u8], slot: usize, mini: u32, tag: u32) -> usize
+    requires { ⌜ Standing layout1 (now b) slot mini tag ⌝ }
+    ensures { λ r. ⌜ r ≡ copies (mini * tags layout1 + tag) (frontList layout1 (now (b .entry))) ⌝ }
+{
+    if slot < LAST {
+        if slots::tag_of(b, slot + 1) == tag {
+            let past = past_of(b, false, slot, mini, tag);
+            return scan(b, false, slot + 1, past, tag + 1) - slot;
+        }
+    }
+    1
+}
+
+// Where a key stands in a front bucket that the reader gave no slot of.
+pub fn seek_front(b: &[u8], key: u32) -> Search
+    requires { ⌜ SoundFront layout1 (now b) × (key < keys layout1) ⌝ }
+    ensures { λ r. ⌜ r ≡ searchOf (foundIn key (frontList layout1 (now (b .entry)))) ⌝ }
+{
+    let slot = slot_front(b, key);
+    if slot == FRONT_SLOTS {
         return Search::Absent;
     }
-    let place = u32::trailing_zeros(marks);
-    let slot = (place - 1) as usize;
-    if word::is_slot_of(word::word_of(b), mini, slot) {
-        return Search::At(slot, copies_marked(b, slot, mini, tag, marks >> place));
-    }
-    seek_in(b, false, mini, tag)
+    Search::At(slot, copies_front(b, slot, key / TAGS, key % TAGS))
 }
 
 // Where a member stands in a backyard bucket that the reader gave no slot of.

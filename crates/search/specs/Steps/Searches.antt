@@ -45,11 +45,10 @@ module _ (L : Layout) (crumbs : Bool) where
     pub smaller : (i : ℕ) → from ≤ i → i < r → lowAt L crumbs b i < low
     pub here : r < past → low ≤ lowAt L crumbs b r
 
--- a key of mini-bucket m and tag t stands in a front bucket, from `slot` on, and these are the marks of the slots from there on that hold t
-pub record Marked (L : Layout) (b : List ℕ) (slot m t marks : ℕ) : Type 0 where
+-- a key of mini-bucket m and tag t stands in a front bucket, from `slot` on
+pub record Standing (L : Layout) (b : List ℕ) (slot m t : ℕ) : Type 0 where
   pub rank : RankOf L false b slot m t
   pub there : 0 < copies (m * tags L + t) (membersOf L false b)
-  pub marks-are : marks ≡ marksOf (tagAt L false b) t slot (L .frontSlots - slot)
 
 -- what a search gives, and the copies that it found
 abbrev pub searchOf : Option Found → Search
@@ -59,6 +58,11 @@ searchOf (some s) = At (s .slot) (s .copies)
 abbrev pub manyIn : Search → ℕ
 manyIn Absent = 0
 manyIn (At i n) = n
+
+-- the slot that was found, n where none was
+abbrev pub slotElse : ℕ → Option Found → ℕ
+slotElse n none = n
+slotElse n (some s) = s .slot
 
 -- layout 1: the place of the one that ends the mini-bucket before m, of mini-bucket 0's own where there is none before it
 abbrev pub endOf1 : List ℕ → ℕ → ℕ

@@ -1,162 +1,62 @@
--- `search::find::seek_front` meets its contract: no slot has the tag, or the first that has is the key's and its copies are marked, or select finds the slot.
-use mathlib.Core.Path.{_≡_, refl, sym, ap, _∙_}
-use Prim.Native.Nat.{ℕ, _+_, _-_, _/_, _%_, _^_, _<_}
-use mathlib.Core.Bool.{Bool, true, false, _&&_}
-use mathlib.Core.List.{List}
+-- `search::find::seek_front` meets its contract: no slot was found, or the copies from it on are counted.
+use mathlib.Core.Path.{_≡_, sym, ap}
+use mathlib.Core.Bool.{false}
+use Prim.Native.Nat.{_≤_, _<_}
 use native.Mathlib.Nat.{div-add-mod'}
 use native.Mathlib.Omega.{arith}
-use lib.ListN.{length, getD}
-use lib.Count.{onesIn, trailingZeros}
-use lib.Dec.{eqb, lit≤}
-use borrow.Author.Tests.{eqb-true}
+use lib.ListN.{length}
+use borrow.Author.Needs.{needs}
 use Rattle.multiset.specs.Multisets.{below, copies}
-use Rattle.multiset.specs.Digits.{highs}
-use Rattle.multiset.proofs.DigitLaws.{length-highs}
 use Rattle.multiset.proofs.RankLaws.{found-some}
 use Rattle.crumbmap.specs.Layouts.{layout1, tags}
 use Rattle.buckets.specs.Buckets.{frontList}
-use Rattle.words.proofs.SelectLaws.{slot-minisIn}
-use Rattle.minifilter.specs.Steps.Slots.{spanOf, tagAt}
 use Rattle.buckets.proofs.ElementLaws.{below-bytes}
 use Rattle.buckets.proofs.BucketLaws.{fits1}
-use Rattle.minifilter.proofs.HeldLaws.{Held, held, held-many1, held-minis1}
-use Rattle.minifilter.specs.Steps.Marks.{marksOf}
+use Rattle.minifilter.proofs.HeldLaws.{Held, held}
 use Rattle.search.specs.Steps.Searches.{searchOf}
-use Rattle.minifilter.proofs.MarkLaws.{marks-none, first-mark}
-use Rattle.search.proofs.TagLaws.{tag-none, tag-there, tag-rank}
+use Rattle.search.proofs.FoundLaws.{slot-none, slot-some}
 use Rattle.search.proofs.find.seek_front.Statement.{statement}
 use Rattle.search.proofs.find.seek_front.Tie as tie
 
--- the points of the walk: the slot is the key's, or not; it was tested; the word is read; a slot has the tag; the marks are made; the bytes are known; the
--- start
-abbrev tested : tie.Then2 → tie.After-is-slot-of
-tested c = c .before
-
-abbrev word : tie.After-is-slot-of → tie.After-word-of
-word c = c .before
-
-abbrev tagged : tie.After-word-of → tie.Else1
-tagged c = c .before
-
-abbrev marked : tie.Else1 → tie.After-marks-of
-marked c = c .before
-
-abbrev bytes : tie.After-marks-of → tie.After-shared-slice-known
-bytes c = c .before
-
-abbrev start : tie.After-marks-of → tie.Start
-start c = bytes c .before
-
--- the members, and the bucket that was read
-abbrev members : tie.After-marks-of → List ℕ
-members c = frontList layout1 (start c .args .b .now)
-
-known : (c : tie.After-marks-of) → Held layout1 false (start c .args .b .now) (members c)
+-- the bucket that was read
+known : (c : tie.After-slot-front) → let b = c .before .before .args .b .now in Held layout1 false b (frontList layout1 b)
 known c =
-    let b = start c .args .b .now in
-    held layout1 fits1 false b (below-bytes b (bytes c .shared-slice-known .given)) (start c .pre .0)
-
--- a slot's tag, the tag that is sought, and the first slot that has it
-abbrev tag : tie.After-marks-of → ℕ → ℕ
-tag c = tagAt layout1 false (start c .args .b .now)
-
-abbrev sought : tie.After-marks-of → ℕ
-sought c = start c .args .key % tags layout1
-
-abbrev slot : tie.Else1 → ℕ
-slot c = trailingZeros 32 (marked c .marks-of .result) - 1
-
-first : (c : tie.Else1) → let k = marked c in
-    let place = trailingZeros 32 (k .marks-of .result) in
-    (0 < place) × (slot c < layout1 .frontSlots) × (tag k (slot c) ≡ sought k) × ((i : ℕ) → i < slot c → tag k i ≡ sought k → ⊥)
-    × (k .marks-of .result / 2 ^ place ≡ marksOf (tag k) (sought k) (slot c) (layout1 .frontSlots - slot c))
-first c =
-    let k = marked c in
-    first-mark (tag k) (sought k) (layout1 .frontSlots) (k .marks-of .result) 32 (k .marks-of .ensures) (lit≤ tt) (omega (arith, c .if1 .left))
+    let s = c .before .before in
+    let b = s .args .b .now in
+    held layout1 fits1 false b (below-bytes b (c .before .shared-slice-known .given)) (s .pre .0)
 
 returns : tie.Need-returns
 returns c =
-    let k = c .before in
-    let a = start k .args in
-    let none = marks-none (tag k) (sought k) 0 (layout1 .frontSlots) (omega (arith, k .marks-of .ensures, c .if1 .taken)) in
-    ap searchOf (sym (tag-none layout1 (a .b .now) (members k) (known k) (a .key) (λ i l. none i (omega arith) (omega arith))))
+    let f = c .before in
+    let a = f .before .before .args in
+    let h = known f in
+    ap searchOf (sym (slot-none (layout1 .frontSlots) (a .key) (frontList layout1 (a .b .now)) (h .order) (h .room) (f .slot-front .ensures) (c .if1 .taken)))
 
--- both tests hold
-both : (p q : Bool) {test : Bool} → test ≡ (p && q) → test ≡ true → (p ≡ true) × (q ≡ true)
-both true q e h = (refl, sym e ∙ h)
-both false q e h = let z : _≡_ {A = ℕ} 0 1 = cc in absurd (omega arith)
+-- where a slot was found
+there : (c : tie.Else1) → let a = c .before .before .before .args in let xs = frontList layout1 (a .b .now) in
+    (c .before .slot-front .result ≡ below (a .key) xs) × (0 < copies (a .key) xs)
+there c =
+    let f = c .before in
+    let a = f .before .before .args in
+    let h = known f in
+    slot-some (layout1 .frontSlots) (a .key) (frontList layout1 (a .b .now)) (h .order) (h .room) (f .slot-front .ensures) (c .if1 .left)
 
--- the slot is one of the key's mini-bucket
-its-own : (c : tie.Then2) → let t = tagged (word (tested c)) in let k = marked t in
-    (slot t < length (members k)) × (getD (highs (tags layout1) (members k)) (slot t) 0 ≡ start k .args .key / tags layout1)
-its-own c =
-    let i = tested c in
-    let w = word i in
-    let t = tagged w in
-    let k = marked t in
-    let b = start k .args .b .now in
-    let bits = w .word-of .result in
-    let mini = start k .args .key / tags layout1 in
-    let e = both (eqb (onesIn (mini + slot t) bits) mini) (eqb (bits / 2 ^ (mini + slot t) % 2) 0) (i .is-slot-of .ensures) (c .if2 .taken) in
-    let minis = held-minis1 b (members k) bits (w .word-of .ensures) false (known k) in
-    let at = rw minis at (slot-minisIn 64 (layout1 .minis) bits mini (slot t) (omega (arith, w .word-of .ok))
-    (held-many1 b (members k) bits (w .word-of .ensures) false (known k)) (omega (arith, start k .pre .1)) (eqb-true _ _ (e .0)) (eqb-true _ _ (e .1))) in
-    (omega (arith, at .0, length-highs (tags layout1) (members k)), at .1)
-
--- and so the lowest of its slots
-lowest : (c : tie.Then2) → let t = tagged (word (tested c)) in let k = marked t in let x = start k .args .key in
-    (slot t ≡ below x (members k)) × (0 < copies x (members k))
-lowest c =
-    let t = tagged (word (tested c)) in
-    let k = marked t in
-    let a = start k .args in
-    let o = its-own c in
-    let f = first t in (
-      tag-rank layout1 (a .b .now) (members k) (known k) (a .key) (slot t) (f .2) (o .0) (o .1) (f .3),
-      tag-there layout1 (a .b .now) (members k) (known k) (a .key) (slot t) (f .2) (o .0) (o .1),
-    )
-
-copies-marked-requires : tie.Need-copies-marked-requires
-copies-marked-requires c κs =
-    let t = tagged (word (tested c)) in
-    let s = start (marked t) in
+copies-front-requires : tie.Need-copies-front-requires
+copies-front-requires c κs =
+    let s = c .before .before .before in
     let whole = div-add-mod' (s .args .key) (tags layout1) in
     record {
-      rank = record { sound = s .pre .0; mini = omega (arith, s .pre .1); low = omega arith; rank = rw whole (lowest c .0) };
-      there = rw whole (lowest c .1);
-      marks-are = first t .4;
+      rank = record { sound = s .pre .0; mini = omega (arith, s .pre .1); low = omega arith; rank = rw whole (there c .0) };
+      there = rw whole (there c .1);
     }
 
 returns-2 : tie.Need-returns-2
 returns-2 c =
-    let l = lowest (c .before) in
-    let k = marked (tagged (word (tested (c .before)))) in
-    let x = start k .args .key in
-    let many = rw (div-add-mod' x (tags layout1)) at (c .copies-marked .ensures) in
-    rw (many, l .0) (ap searchOf (sym (found-some x (members k) (known k .order) (l .1))))
-
-seek-in-requires : tie.Need-seek-in-requires
-seek-in-requires c κs =
-    let p = start (marked (tagged (word (c .before)))) .pre in
-    record { sound = p .0; mini = omega (arith, p .1); low = omega arith }
-
-returns-3 : tie.Need-returns-3
-returns-3 c =
-    let k = marked (tagged (word (c .before .before))) in
-    rw (div-add-mod' (start k .args .key) (spanOf layout1 false)) at (c .seek-in .ensures)
+    let e = c .before in
+    let f = e .before in
+    let a = f .before .before .args in
+    let many = rw (div-add-mod' (a .key) (tags layout1)) at (c .copies-front .ensures) in
+    rw (many, there e .0) (ap searchOf (sym (found-some (a .key) (frontList layout1 (a .b .now)) (known f .order) (there e .1))))
 
 pub seek-front-spec : {M : Type 1} → statement M
-seek-front-spec =
-    tie.close
-    (tie.spec
-    (λ c κs. c .before .pre .0 .long)
-    returns
-    (λ c. first c .0)
-    (λ c. omega (arith, first c .1))
-    (λ c κs. omega (arith, start (marked c) .pre .0 .long))
-    (λ c κs. omega (arith, start (marked (tagged c)) .pre .1, first (tagged c) .1))
-    (λ c. omega (arith, first (tagged (word (tested c))) .0, first (tagged (word (tested c))) .1))
-    copies-marked-requires
-    returns-2
-    seek-in-requires
-    returns-3)
+seek-front-spec = tie.close (tie.spec (λ c κs. search needs) returns copies-front-requires returns-2)
