@@ -33,7 +33,7 @@ use Rattle.lookup.proofs.FrontSteps.{Holds, holds-all}
 -- ---- in front
 
 -- the bucket was read, and searched for x
-module _ {L : Layout} (B : ℕ) {f x n slot : ℕ} {img : List ℕ} (h : Holds L f x img n slot) {r : Search}
+module _ {L : Layout} (B x : ℕ) {f n : ℕ} {img : List ℕ} (h : Holds L f img n) {r : Search}
     (said : r ≡ searchOf (foundIn x (inFront L f img))) where
   pub ask-here : {i m : ℕ} → r ≡ At i m → asked 1 front (record { slot = i; copies = m }) ≡ askAt L B f x img
   unfolding askAt
@@ -57,7 +57,7 @@ module _ {L : Layout} (B : ℕ) {f x n slot : ℕ} {img : List ℕ} (h : Holds L
   )
 
 -- all are smaller
-pub exceeds : {L : Layout} {f x n slot : ℕ} {img : List ℕ} (h : Holds L f x img n slot) → L .frontSlots ≤ n
+pub exceeds : {L : Layout} {f x n : ℕ} {img : List ℕ} (h : Holds L f img n) → L .frontSlots ≤ n
     → {top : ℕ} → top ≡ largest (inFront L f img) → top < x → Exceeds L f x img
 exceeds h full most l = record { whole = holds-all h full; over = omega (arith, most) }
 

@@ -45,7 +45,7 @@ unfolding countAt
 count-unsound L B f x img e = rw e
 
 -- the bucket was read, and m copies of x were found in it
-module _ {L : Layout} (B : ℕ) {f x n slot : ℕ} {img : List ℕ} (h : Holds L f x img n slot) {m : ℕ} (here : m ≡ copies x (inFront L f img)) where
+module _ {L : Layout} (B x : ℕ) {f n : ℕ} {img : List ℕ} (h : Holds L f img n) {m : ℕ} (here : m ≡ copies x (inFront L f img)) where
   pub count-few : n < L .frontSlots → counted 1 m ≡ countAt L B f x img
   unfolding countAt
   count-few l = rw (here, h .read .accepts, ne-eqb (length (inFront L f img)) (L .frontSlots) (λ e. omega (arith, h .many)))
@@ -75,7 +75,7 @@ by-sought here y i (some ys) order = go (eq-zero-or-pos (copies y ys))
     go (inr p) = rw (found-some y ys (order ys refl) p)
 
 -- none is larger
-pub reaches : {L : Layout} {t : Target} {n slot : ℕ} {img : List ℕ} → Placed L t img → (h : Holds L (t .front .0) (t .key) img n slot) {m : ℕ}
+pub reaches : {L : Layout} {t : Target} {n : ℕ} {img : List ℕ} → Placed L t img → (h : Holds L (t .front .0) img n) {m : ℕ}
     → m ≡ copies (t .key) (inFront L (t .front .0) img) → L .frontSlots ≤ n → {top : ℕ} → top ≡ largest (inFront L (t .front .0) img) → top ≤ t .key
     → Reaches L t m img
 reaches placed h here full most l = record { placed = placed; whole = holds-all h full; reach = omega (arith, most); many = here }

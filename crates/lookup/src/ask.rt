@@ -11,13 +11,13 @@ use crumbmap::map::coincide;
 use crumbmap::map::first_of;
 use crumbmap::map::second_of;
 use image::Target;
-use image::front::read_front_at;
+use image::front::sound_front_at;
 use image::place::bucket;
 use image::place::target_of;
 use minifilter::Reading;
 use search::Search;
-use search::find::find_front;
 use search::find::largest_front;
+use search::find::seek_front;
 use tails::Opening;
 use tails::open::open_image;
 ghost use mathlib.Core.Path.{_≡_};
@@ -47,11 +47,11 @@ fn ask_at(image: &[u8], target: Target) -> AskResult
 {
     let front = target.front;
     let key = target.key;
-    let Reading::Members(n, below) = read_front_at(image, front, key) else {
+    let Reading::Members(n, _) = sound_front_at(image, front) else {
         return AskResult::Refused(Refusal::Unsound(front.0));
     };
     let b = bucket(image, front.0);
-    match find_front(b, below, key) {
+    match seek_front(b, key) {
         Search::At(slot, copies) => AskResult::Accepted(Asked {
             reads: 1,
             place: Place::Front(slot),

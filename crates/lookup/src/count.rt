@@ -14,13 +14,13 @@ use image::BackyardReading;
 use image::Target;
 use image::back::find_at;
 use image::back::read_backyard;
-use image::front::read_front_at;
+use image::front::sound_front_at;
 use image::place::bucket;
 use image::place::target_of;
 use minifilter::Reading;
 use search::find::copies_of;
-use search::find::find_front;
 use search::find::largest_front;
+use search::find::seek_front;
 use tails::Opening;
 use tails::open::open_image;
 ghost use mathlib.Core.Path.{_≡_};
@@ -53,11 +53,11 @@ fn count_at(image: &[u8], target: Target) -> CountResult
 {
     let front = target.front;
     let key = target.key;
-    let Reading::Members(n, below) = read_front_at(image, front, key) else {
+    let Reading::Members(n, _) = sound_front_at(image, front) else {
         return CountResult::Refused(Refusal::Unsound(front.0));
     };
     let b = bucket(image, front.0);
-    let copies = copies_of(find_front(b, below, key));
+    let copies = copies_of(seek_front(b, key));
     if n < FRONT_SLOTS {
         return CountResult::Accepted(Counted { copies, reads: 1 });
     }

@@ -5,7 +5,7 @@ use mathlib.Core.List.{List}
 use native.Mathlib.Omega.{arith}
 use lib.ListN.{length}
 use borrow.Author.Needs.{needs}
-use Rattle.multiset.specs.Multisets.{below, copies, foundIn}
+use Rattle.multiset.specs.Multisets.{copies, foundIn}
 use Rattle.crumbmap.specs.Layouts.{layout1}
 use Rattle.search.specs.Steps.Searches.{searchOf}
 use Rattle.search.proofs.FoundLaws.{search-absent, search-at}
@@ -18,33 +18,33 @@ use Rattle.deletion.proofs.plan.plan.Statement.{statement}
 use Rattle.deletion.proofs.plan.plan.Tie as tie
 
 -- the points of the walk: the start, the front bucket read, found sound, searched, a copy there
-abbrev start : tie.After-read-front-at → tie.Start
+abbrev start : tie.After-sound-front-at → tie.Start
 start c = c .before .before .before
 
-abbrev read : tie.After-known-told → tie.After-read-front-at
+abbrev read : tie.After-known-told → tie.After-sound-front-at
 read c = c .before .before .before
 
-abbrev sound : tie.After-find-front → tie.After-known-told
+abbrev sound : tie.After-seek-front → tie.After-known-told
 sound c = c .before .before
 
-abbrev sought : tie.After-known-told2 → tie.After-find-front
+abbrev sought : tie.After-known-told2 → tie.After-seek-front
 sought c = c .before .before .before
 
 -- the members of the front bucket
 abbrev members : tie.After-known-told → List ℕ
 members c = inFront layout1 (start (read c) .args .target .front .0) (start (read c) .args .image .now)
 
--- the front bucket was read, with n members and so many below the key
+-- the front bucket was read, with n members
 front : (c : tie.After-known-told) →
     FrontRead layout1 (start (read c) .args .target .front .0) (start (read c) .args .image .now) × (length (members c) ≡ c .before .n .given .0 .0)
-    × (c .before .n .given .0 .1 .0 ≡ below (start (read c) .args .target .key) (members c))
 front c =
     let a = start (read c) .args in
-    front-told layout1 (a .target .front .0) (a .target .key) (a .image .now) (read c .read-front-at .ensures) (c .before .n .given .1)
+    let t = front-told layout1 (a .target .front .0) 0 (a .image .now) (read c .sound-front-at .ensures) (c .before .n .given .1) in
+    (t .0, t .1)
 
 -- what was found there
-near : (c : tie.After-find-front) → c .find-front .result ≡ searchOf (foundIn (start (read (sound c)) .args .target .key) (members (sound c)))
-near c = rw (c .before .bucket .ensures .0) at (c .find-front .ensures)
+near : (c : tie.After-seek-front) → c .seek-front .result ≡ searchOf (foundIn (start (read (sound c)) .args .target .key) (members (sound c)))
+near c = rw (c .before .bucket .ensures .0) at (c .seek-front .ensures)
 
 -- a copy, at the slot behind the members below it
 there : (c : tie.After-known-told2) → let k = sound (sought c) in let x = start (read k) .args .target .key in
@@ -56,21 +56,21 @@ there c =
     let f = search-at (start (read k) .args .target .key) (members k) order (near s) (c .before .slot .given .1) in
     (f .2, rank-at order (f .0) (f .2))
 
-read-front-at-requires : tie.Need-read-front-at-requires
-read-front-at-requires c κs = let p = c .before .before .pre in (front-in (p .within), p .key)
+sound-front-at-requires : tie.Need-sound-front-at-requires
+sound-front-at-requires c κs = front-in (c .before .before .pre .within)
 
 returns : tie.Need-returns
 unfolding deleteAt
 returns c =
     let r = c .before .before in
     let a = start r .args in
-    rw (front-unsound layout1 (a .target .front .0) (a .target .key) (a .image .now) (r .read-front-at .ensures) (c .enum-told .given .1))
+    rw (front-unsound layout1 (a .target .front .0) 0 (a .image .now) (r .sound-front-at .ensures) (c .enum-told .given .1))
 
 bucket-requires : tie.Need-bucket-requires
 bucket-requires c κs = front c .0 .inside
 
-find-front-requires : tie.Need-find-front-requires
-find-front-requires c κs = let r = front (c .before) in rw (c .bucket .ensures .0) (r .0 .sound, start (read (c .before)) .pre .key, r .2)
+seek-front-requires : tie.Need-seek-front-requires
+seek-front-requires c κs = rw (c .bucket .ensures .0) (front (c .before) .0 .sound, start (read (c .before)) .pre .key)
 
 plan-other-requires : tie.Need-plan-other-requires
 plan-other-requires c κs =
@@ -103,12 +103,12 @@ pub plan-spec : {M : Type 1} → statement M
 plan-spec =
     tie.close
     (tie.spec
-    read-front-at-requires
+    sound-front-at-requires
     (λ c. search needs)
     (λ c. search needs)
     returns
     bucket-requires
-    find-front-requires
+    seek-front-requires
     (λ c. search needs)
     (λ c. search needs)
     plan-other-requires

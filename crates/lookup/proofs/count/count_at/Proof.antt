@@ -23,21 +23,24 @@ lent c = c .before .before
 abbrev sound : tie.After-bucket → tie.After-known-told
 sound c = c .before
 
-abbrev read : tie.After-known-told → tie.After-read-front-at
+abbrev read : tie.After-known-told → tie.After-sound-front-at
 read c = c .before .before .before
 
-abbrev start : tie.After-read-front-at → tie.Start
+abbrev start : tie.After-sound-front-at → tie.Start
 start c = c .before .before .before
 
--- the image's size, and what was read
+-- the image's size, the key, and what was read
 abbrev size : tie.After-known-told → ℕ
 size c = start (read c) .args .target .size
 
+abbrev sought-key : tie.After-known-told → ℕ
+sought-key c = start (read c) .args .target .key
+
 front : (c : tie.After-known-told) → let a = start (read c) .args in
-    Holds layout1 (a .target .front .0) (a .target .key) (a .image .now) (c .before .n .given .0 .0) (c .before .n .given .0 .1 .0)
+    Holds layout1 (a .target .front .0) (a .image .now) (c .before .n .given .0 .0)
 front c =
     let a = start (read c) .args in
-    holds layout1 (a .target .front .0) (a .target .key) (a .image .now) (read c .read-front-at .ensures) (c .before .n .given .1)
+    holds layout1 (a .target .front .0) (a .image .now) (read c .sound-front-at .ensures) (c .before .n .given .1)
 
 -- the copies in front, and the largest there
 here : (c : tie.After-copies-of) → let a = start (read (sound (lent c))) .args in
@@ -47,14 +50,14 @@ here c =
     let a = start (read (sound b)) .args in
     let h = front (sound b) in
     search-many (a .target .key) (inFront layout1 (a .target .front .0) (a .image .now)) (h .read .list .order)
-    (key-found h (b .bucket .ensures .0) (c .before .find-front .ensures)) (c .copies-of .ensures)
+    (key-found h (b .bucket .ensures .0) (a .target .key) (c .before .seek-front .ensures)) (c .copies-of .ensures)
 
 top : (c : tie.After-largest-front) → let a = start (read (sound (lent (counted c)))) .args in
     c .largest-front .result ≡ largest (inFront layout1 (a .target .front .0) (a .image .now))
 top c = let b = lent (counted c) in largest-found (front (sound b)) (b .bucket .ensures .0) (c .largest-front .ensures)
 
-read-front-at-requires : tie.Need-read-front-at-requires
-read-front-at-requires c κs = let p = c .before .before .pre in (front-in (p .within), p .key)
+sound-front-at-requires : tie.Need-sound-front-at-requires
+sound-front-at-requires c κs = front-in (c .before .before .pre .within)
 
 returns : tie.Need-returns
 returns c =
@@ -62,16 +65,16 @@ returns c =
     let t = start r .args .target in
     let img = start r .args .image .now in
     count-unsound layout1 (t .size) (t .front .0) (t .key) img
-    (front-unsound layout1 (t .front .0) (t .key) img (r .read-front-at .ensures) (c .enum-told .given .1))
+    (front-unsound layout1 (t .front .0) 0 img (r .sound-front-at .ensures) (c .enum-told .given .1))
 
 bucket-requires : tie.Need-bucket-requires
 bucket-requires c κs = front c .read .inside
 
-find-front-requires : tie.Need-find-front-requires
-find-front-requires c κs = key-sought (front (sound c)) (c .bucket .ensures .0) (start (read (sound c)) .pre .key)
+seek-front-requires : tie.Need-seek-front-requires
+seek-front-requires c κs = key-sought (front (sound c)) (c .bucket .ensures .0) (start (read (sound c)) .pre .key)
 
 returns-2 : tie.Need-returns-2
-returns-2 c = let n = c .before in let k = sound (lent n) in count-few (size k) (front k) (here n) (omega arith)
+returns-2 c = let n = c .before in let k = sound (lent n) in count-few (size k) (sought-key k) (front k) (here n) (omega arith)
 
 largest-front-requires : tie.Need-largest-front-requires
 largest-front-requires c κs =
@@ -83,7 +86,7 @@ returns-3 c =
     let t = c .before in
     let n = counted t in
     let k = sound (lent n) in
-    count-low (size k) (front k) (here n) (omega arith) (top t) (omega arith)
+    count-low (size k) (sought-key k) (front k) (here n) (omega arith) (top t) (omega arith)
 
 count-behind-requires : tie.Need-count-behind-requires
 count-behind-requires c κs =
@@ -96,12 +99,12 @@ pub count-at-spec : {M : Type 1} → statement M
 count-at-spec =
     tie.close
     (tie.spec
-    read-front-at-requires
+    sound-front-at-requires
     (λ c. search needs)
     (λ c. search needs)
     returns
     bucket-requires
-    find-front-requires
+    seek-front-requires
     (λ c κs. search needs)
     returns-2
     largest-front-requires
