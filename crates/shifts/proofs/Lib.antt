@@ -1,4 +1,6 @@
--- Laws of stretches that something is put into or taken out of: lists, tags, halves.
+-- Laws of stretches that something is put into or taken out of: lists, lanes of words, tags, crumbs.
 pub mod ShiftLaws
+pub mod LaneLaws
+pub mod MoveLaws
 pub mod TagLaws
-pub mod HalfLaws
+pub mod CrumbLaws

@@ -55,11 +55,12 @@ module _ (L : Layout) where
 
 -- ---- layout 1: a word of 8 bytes, tags of two
 
--- 64 bytes whose tags end at byte `end`, one of them at slot `slot`
+-- 64 bytes whose tags, two words of them or more, end at byte `end`, one of them at slot `slot`
 pub record TagRoom1 (b : List ℕ) (end slot : ℕ) : Type 0 where
   pub long : length b ≡ 64
   pub inside : end ≤ 64
   pub even : end % 2 ≡ 0
+  pub wide : wordBytes1 + 16 ≤ end
   pub room : wordBytes1 + slot * 2 + 2 ≤ end
 
 -- the same with a bit left in the word for one more key

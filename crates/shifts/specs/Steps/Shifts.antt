@@ -1,5 +1,5 @@
 -- A stretch of bytes or halves that something is put into or taken out of.
-use Prim.Native.Nat.{ℕ, _+_, _-_}
+use Prim.Native.Nat.{ℕ, _+_}
 use mathlib.Core.List.{List, [], _∷_, _++_}
 use lib.ListN.{length, take, drop, replicate}
 use Rattle.multiset.specs.Digits.{spread, grouped}
@@ -13,6 +13,10 @@ inserted at vs l = take at l ++ (vs ++ drop at l)
 abbrev pub takenOut : ℕ → ℕ → List ℕ → List ℕ
 takenOut at n l = take at l ++ (drop (at + n) l ++ replicate n 0)
 
+-- the first n members of one list, and those behind them of another
+abbrev pub mixed : ℕ → List ℕ → List ℕ → List ℕ
+mixed n xs ys = take n xs ++ drop n ys
+
 -- ---- crumbs
 
 -- bytes of two halves each, with a half put in at a slot, the last falling off, and with the one there taken out
@@ -21,10 +25,3 @@ crumbInserted slot crumb s = grouped 16 2 (length s) (inserted slot (crumb ∷ [
 
 unfoldable pub crumbRemoved : ℕ → List ℕ → List ℕ
 crumbRemoved slot s = grouped 16 2 (length s) (takenOut slot 1 (spread 16 2 s))
-
--- the same where the slot is the lower half of byte `from`
-unfoldable pub halfPushed : ℕ → ℕ → List ℕ → List ℕ
-halfPushed from half s = take from s ++ grouped 16 2 (length s - from) (half ∷ spread 16 2 (drop from s))
-
-unfoldable pub halfPopped : ℕ → List ℕ → List ℕ
-halfPopped from s = take from s ++ grouped 16 2 (length s - from) (drop 1 (spread 16 2 (drop from s)) ++ (0 ∷ []))

@@ -27,7 +27,7 @@ insert-slot-requires c κs =
     let b = s .args .b .now in
     let p = s .pre in
     record {
-      tags = record { long = p .sound .long; inside = lit≤ tt; even = refl; room = omega (arith, slot-lt (c .before)) };
+      tags = record { long = p .sound .long; inside = lit≤ tt; even = refl; wide = lit≤ tt; room = omega (arith, slot-lt (c .before)) };
       range = omega (arith, p .range);
       free = back-word-lt layout1 fits1 b (below-bytes b (c .before .slice-known .given)) (p .sound) 63 (omega (arith, p .free));
     }
@@ -36,7 +36,7 @@ insert-crumb-requires : tie.Need-insert-crumb-requires
 insert-crumb-requires c κs =
     let put = c .before .before .before .insert-slot in
     let known = c .before .before .before .before .before in
-    (rw (crumbs-long (put .last .0) (put .kept .0 ∙ known .before .pre .sound .long)) (omega (arith, slot-lt known)), omega arith)
+    (crumbs-long (put .last .0) (put .kept .0 ∙ known .before .pre .sound .long), omega (arith, slot-lt known), omega arith)
 
 returns : tie.Need-returns
 returns c =

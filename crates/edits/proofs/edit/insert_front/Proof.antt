@@ -25,6 +25,7 @@ insert-slot-requires c κs =
         long = p .sound .long;
         inside = lit≤ tt;
         even = refl;
+        wide = lit≤ tt;
         room = omega (arith, p .rank, below-le-length (s .args .key) (frontList layout1 b), p .free);
       };
       range = p .range;

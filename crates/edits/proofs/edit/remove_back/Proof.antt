@@ -26,13 +26,13 @@ remove-slot-requires c κs =
     let a = s .args in
     let b = a .b .now in
     let fit = back-lt layout1 fits1 b (below-bytes b (c .before .slice-known .given)) (s .pre .0) (a .member) (a .slot) (s .pre .1) (s .pre .2) in
-    (record { long = s .pre .0 .long; inside = lit≤ tt; even = refl; room = omega (arith, slot-lt (c .before)) }, omega (arith, fit))
+    (record { long = s .pre .0 .long; inside = lit≤ tt; even = refl; wide = lit≤ tt; room = omega (arith, slot-lt (c .before)) }, omega (arith, fit))
 
 remove-crumb-requires : tie.Need-remove-crumb-requires
 remove-crumb-requires c κs =
     let put = c .before .before .before .remove-slot in
     let known = c .before .before .before .before .before in
-    rw (crumbs-long (put .last .0) (put .kept .0 ∙ known .before .pre .0 .long)) (omega (arith, slot-lt known))
+    (crumbs-long (put .last .0) (put .kept .0 ∙ known .before .pre .0 .long), omega (arith, slot-lt known))
 
 returns : tie.Need-returns
 returns c =

@@ -18,7 +18,7 @@ remove-slot-requires c κs =
     let b = a .b .now in
     let bytes = below-bytes b (c .before .slice-known .given) in
     let room = front-list layout1 fits1 b bytes (s .pre .0) .room in (
-      record { long = s .pre .0 .long; inside = lit≤ tt; even = refl; room = omega (arith, s .pre .1, room) },
+      record { long = s .pre .0 .long; inside = lit≤ tt; even = refl; wide = lit≤ tt; room = omega (arith, s .pre .1, room) },
       omega (arith, front-lt layout1 fits1 b bytes (s .pre .0) (a .key) (a .slot) (s .pre .1) (s .pre .2)),
     )
 

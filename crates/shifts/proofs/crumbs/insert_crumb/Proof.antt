@@ -1,59 +1,53 @@
--- `shifts::crumbs::insert_crumb` meets its contract: an even slot is a byte's lower half; at an odd one the byte's higher half moves on.
-use mathlib.Core.Path.{_≡_, sym, ap, _∙_}
-use Prim.Native.Nat.{ℕ, _+_, _*_, _/_}
+-- `shifts::crumbs::insert_crumb` meets its contract: what falls off the first word comes into the bytes behind it.
+use mathlib.Core.Path.{sym, ap, _∙_}
+use Prim.Native.Nat.{ℕ}
+use mathlib.Core.List.{[], _∷_}
 use native.Mathlib.Omega.{arith}
-use lib.ListN.{length-set}
 use borrow.Author.Needs.{needs}
-use Rattle.shifts.specs.Steps.Shifts.{crumbInserted}
-use Rattle.buckets.proofs.ElementLaws.{below-bytes}
-use Rattle.shifts.proofs.HalfLaws.{crumb-in-odd, crumb-in-even}
+use Rattle.multiset.specs.Digits.{grouped, spread}
+use Rattle.shifts.specs.Steps.Shifts.{inserted, crumbInserted}
+use Rattle.shifts.proofs.CrumbLaws.{crumbs-stored, crumbs-written, crumb-inserted}
 use Rattle.shifts.proofs.crumbs.insert_crumb.Statement.{statement}
 use Rattle.shifts.proofs.crumbs.insert_crumb.Tie as tie
 
+open-lane-requires : tie.Need-open-lane-requires
+open-lane-requires c κs = (omega arith, c .carried .ensures .0)
+
 returns : tie.Need-returns
+unfolding crumbInserted
 returns c =
-    let pushed = c .before .before in
-    let entry = pushed .before .before .before in
-    let a = entry .before .args in
+    let put = c .before .before in
+    let first = put .before .before .before .before in
+    let opened = first .before .before in
+    let carried = opened .before .before in
+    let read = carried .before .before in
+    let start = read .before .before .before .before .before in
+    let a = start .args in
     let s = a .s .now in
-    let even : a .slot ≡ a .slot / 2 * 2 = omega (arith, pushed .before .before .if1 .taken) in
-    pushed .push-half .ensures
-    ∙ sym (crumb-in-even s (below-bytes s (entry .slice-known .given)) (a .slot / 2) (entry .before .pre .0) (a .crumb))
-    ∙ ap (λ (k : ℕ). crumbInserted k (a .crumb) s) (sym even)
-
-push-half-requires-2 : tie.Need-push-half-requires-2
-push-half-requires-2 c κs =
-    let entry = c .before .before .before in
-    (simp length-set (omega arith), omega (arith, entry .slice-known .given (entry .before .args .slot / 2)))
-
-same-length-2 : tie.Need-same-length-2
-same-length-2 c = c .before .before .push-half2 .kept .0 ∙ simp length-set
-
-returns-2 : tie.Need-returns-2
-returns-2 c =
-    let pushed = c .before .before in
-    let entry = pushed .before .before .before .before in
-    let a = entry .before .args in
-    let s = a .s .now in
-    let j = a .slot / 2 in
-    let odd : a .slot ≡ j * 2 + 1 = omega (arith, pushed .before .before .before .if1 .left) in
-    let bytes = entry .slice-known .given in
-    pushed .push-half2 .ensures ∙ sym (crumb-in-odd s (below-bytes s bytes) j (entry .before .pre .0) (a .crumb) (bytes j .fits))
-    ∙ ap (λ (k : ℕ). crumbInserted k (a .crumb) s) (sym odd)
+    let low = opened .open-lane2 .result in
+    let high = opened .before .open-lane .result in
+    let w = read .word-at2 .result in
+    let v = read .before .before .word-at .result in
+    let halves = crumb-inserted s v w (start .pre .0) (read .before .before .word-at .ensures) (read .word-at2 .ensures)
+    (a .slot) (a .crumb) (carried .carried .result) (carried .before .low-lanes .result) low high (carried .before .low-lanes .ensures)
+    (carried .carried .ensures .1) (opened .open-lane2 .ensures) (opened .before .open-lane .ensures) in
+    let bytes = crumbs-stored low high s (first .put-at .last .0) (put .put-at2 .last .0) (start .pre .0) (first .put-at .ensures) (put .put-at2 .ensures) in
+    crumbs-written low high (put .put-at2 .last .0) (inserted (a .slot) (a .crumb ∷ []) (spread 16 2 s)) bytes halves
+    ∙ ap (λ (n : ℕ). grouped 16 2 n (inserted (a .slot) (a .crumb ∷ []) (spread 16 2 s))) (sym (start .pre .0))
 
 pub insert-crumb-spec : {M : Type 1} → statement M
 insert-crumb-spec =
     tie.close
     (tie.spec
-    (λ c. search needs)
+    (λ c κs. search needs)
+    (λ c κs. search needs)
+    (λ c κs. search needs)
     (λ c κs. search needs)
     (λ c. search needs)
-    returns
     (λ c. search needs)
+    open-lane-requires
+    (λ c κs. search needs)
+    (λ c κs. search needs)
+    (λ c κs. search needs)
     (λ c. search needs)
-    (λ c. search needs)
-    (λ c. search needs)
-    (λ c. search needs)
-    push-half-requires-2
-    same-length-2
-    returns-2)
+    returns)

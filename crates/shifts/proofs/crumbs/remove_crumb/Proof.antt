@@ -1,53 +1,51 @@
--- `shifts::crumbs::remove_crumb` meets its contract: an even slot is a byte's lower half; at an odd one the next byte's lower half comes in.
-use mathlib.Core.Path.{_≡_, sym, ap, _∙_}
-use Prim.Native.Nat.{ℕ, _+_, _*_, _/_}
+-- `shifts::crumbs::remove_crumb` meets its contract: the first crumb behind the first word comes into it.
+use mathlib.Core.Path.{sym, ap, _∙_}
+use Prim.Native.Nat.{ℕ}
 use native.Mathlib.Omega.{arith}
-use lib.ListN.{length-set}
 use borrow.Author.Needs.{needs}
-use Rattle.shifts.specs.Steps.Shifts.{crumbRemoved}
-use Rattle.buckets.proofs.ElementLaws.{below-bytes}
-use Rattle.shifts.proofs.HalfLaws.{crumb-out-even, crumb-out-odd}
+use Rattle.multiset.specs.Digits.{grouped, spread}
+use Rattle.shifts.specs.Steps.Shifts.{takenOut, crumbRemoved}
+use Rattle.shifts.proofs.CrumbLaws.{crumbs-stored, crumbs-written, crumb-removed}
 use Rattle.shifts.proofs.crumbs.remove_crumb.Statement.{statement}
 use Rattle.shifts.proofs.crumbs.remove_crumb.Tie as tie
 
 returns : tie.Need-returns
+unfolding crumbRemoved
 returns c =
-    let popped = c .before .before in
-    let entry = popped .before .before .before in
-    let a = entry .before .args in
+    let put = c .before .before in
+    let first = put .before .before .before .before in
+    let mixed = first .before .before in
+    let lanes = mixed .before .before in
+    let read = lanes .before in
+    let start = read .before .before .before .before .before in
+    let a = start .args in
     let s = a .s .now in
-    let even : a .slot ≡ a .slot / 2 * 2 = omega (arith, popped .before .before .if1 .taken) in
-    popped .pop-half .ensures ∙ sym (crumb-out-even s (below-bytes s (entry .slice-known .given)) (a .slot / 2) (omega arith))
-    ∙ ap (λ (k : ℕ). crumbRemoved k s) (sym even)
-
-same-length-2 : tie.Need-same-length-2
-same-length-2 c = c .before .before .pop-half2 .kept .0 ∙ simp length-set
-
-returns-2 : tie.Need-returns-2
-returns-2 c =
-    let popped = c .before .before in
-    let entry = popped .before .before .before .before .before in
-    let a = entry .before .args in
-    let s = a .s .now in
-    let j = a .slot / 2 in
-    let odd : a .slot ≡ j * 2 + 1 = omega (arith, popped .before .before .before .before .if1 .left) in
-    popped .pop-half2 .ensures ∙ sym (crumb-out-odd s (below-bytes s (entry .slice-known .given)) j (omega arith) (entry .before .pre))
-    ∙ ap (λ (k : ℕ). crumbRemoved k s) (sym odd)
+    let low = mixed .blend2 .result in
+    let high = mixed .before .blend .result in
+    let w = read .word-at2 .result in
+    let v = read .before .before .word-at .result in
+    let halves = crumb-removed s v w (start .pre .0) (read .before .before .word-at .ensures) (read .word-at2 .ensures)
+    (a .slot) (lanes .low-lanes .result) low high (start .pre .1) (lanes .low-lanes .ensures) (omega arith) (omega arith)
+    (mixed .blend2 .ensures) (mixed .before .blend .ensures) in
+    let bytes = crumbs-stored low high s (first .put-at .last .0) (put .put-at2 .last .0) (start .pre .0) (first .put-at .ensures) (put .put-at2 .ensures) in
+    crumbs-written low high (put .put-at2 .last .0) (takenOut (a .slot) 1 (spread 16 2 s)) bytes halves
+    ∙ ap (λ (n : ℕ). grouped 16 2 n (takenOut (a .slot) 1 (spread 16 2 s))) (sym (start .pre .0))
 
 pub remove-crumb-spec : {M : Type 1} → statement M
 remove-crumb-spec =
     tie.close
     (tie.spec
     (λ c κs. search needs)
-    (λ c. search needs)
-    returns
-    (λ c. search needs)
-    (λ c. search needs)
-    (λ c. search needs)
-    (λ c. search needs)
+    (λ c κs. search needs)
+    (λ c κs. search needs)
     (λ c. search needs)
     (λ c. search needs)
     (λ c. search needs)
     (λ c κs. search needs)
-    same-length-2
-    returns-2)
+    (λ c. search needs)
+    (λ c. search needs)
+    (λ c κs. search needs)
+    (λ c κs. search needs)
+    (λ c κs. search needs)
+    (λ c. search needs)
+    returns)
