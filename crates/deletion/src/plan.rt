@@ -19,8 +19,8 @@ use image::front::sound_front_at;
 use image::place::bucket;
 use minifilter::Reading;
 use search::Search;
+use search::find::find_front;
 use search::find::largest_front;
-use search::find::seek_front;
 ghost use mathlib.Core.Path.{_≡_};
 ghost use Prim.Native.Nat.{_<_};
 ghost use Rattle.multiset.specs.Multisets.{removed, below, copies};
@@ -39,7 +39,7 @@ pub fn plan(image: &[u8], target: Target) -> DeletePlan
     let Reading::Members(n, _) = sound_front_at(image, front) else {
         return DeletePlan::Refused(Refusal::Unsound(front.0));
     };
-    let Search::At(slot, _) = seek_front(bucket(image, front.0), key) else {
+    let Search::At(slot, _) = find_front(bucket(image, front.0), key) else {
         return plan_other(image, target, n);
     };
     if n < FRONT_SLOTS {

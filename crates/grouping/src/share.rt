@@ -14,7 +14,7 @@ use image::BackReading;
 use image::back::find_at;
 use image::back::read_back_at;
 use image::back::seek_at;
-use image::front::sound_front_at;
+use image::front::read_front_at;
 use image::place::bucket;
 use image::place::table_of;
 use minifilter::Reading;
@@ -137,7 +137,7 @@ fn share(image: &[u8], size: usize, front: Front, key: u32, reads: u32) -> Share
     ensures { λ r. ⌜ sharedOf r ≡ sharing layout1 size (front .0) key (now (image .entry)) reads ⌝ }
 {
     if reads == 0 {
-        let Reading::Members(_, _) = sound_front_at(image, front) else {
+        let Reading::Members(_, _) = read_front_at(image, front, key) else {
             return Shared::Unsound(front.0);
         };
         return share_front(image, size, front, key, 1);

@@ -1,13 +1,15 @@
 -- Lists that were written, and the members of a front bucket that was read, as the machine lists them, for any layout.
 -- Main results: `bags-merged`, First(f) and Second(f) listed where the choices lead to; `members-merged`, `members-range`, `members-room`,
 -- `members-at`; `counting-few`, `counting-full`, `counting-unsound`, what counting says.
-use mathlib.Core.Path.{_≡_, refl, ap}
-use Prim.Native.Nat.{ℕ, _+_, _≤_, _<_}
+use mathlib.Core.Path.{_≡_, refl, sym, ap, _∙_}
+use Prim.Native.Nat.{ℕ, _+_, _-_, _≤_, _<_}
 use mathlib.Core.Bool.{Bool, true, false, cond}
-use mathlib.Core.List.{List, []}
+use mathlib.Core.List.{List, [], _++_, append-assoc}
 use native.Mathlib.Omega.{arith}
-use lib.ListN.{length, take}
+use lib.ListN.{length, take, drop, length-drop}
+use lib.Seq.{length-take-le, take-at, drop-at}
 use lib.Dec.{T, ltb}
+use borrow.Rule.Slice.PartMut.{putMid}
 use borrow.Author.Tests.{ltb-true, ltb-false, lt-ltb, le-ltb}
 use Rattle.multiset.specs.Multisets.{ascending, Below}
 use Rattle.crumbmap.specs.Layouts.{Layout, keys, fronts, mostBehind, mostMembers}
@@ -23,21 +25,43 @@ use Rattle.buckets.proofs.CarryLaws.{below-carrying}
 use Rattle.image.specs.Steps.ImageReads.{FrontIn, FrontRead, BothRead}
 use Rattle.image.specs.Steps.Listed.{Listed}
 use Rattle.image.proofs.ImageReadLaws.{chosen-read, both-accepts}
-use Rattle.image.proofs.ListedLaws.{listed-take, carrying-room, carrying-order}
-use Rattle.listing.specs.Steps.Listings.{Mergeable, Merged, bagAt, behindIn, membersIn, MembersRead, CountSays}
+use Rattle.image.proofs.ListedLaws.{listed-fits, listed-joined, carrying-room, carrying-order}
+use Rattle.listing.specs.Steps.Listings.{bagAt, behindIn, membersIn, MembersRead, CountSays, Parts, joined}
 use Rattle.listing.specs.declared.MemberCount.{MemberCount}
 use Rattle.listing.specs.declared.MemberCount.the-variants as M
 
--- two lists that were written, merged into a third
-module _ {xs ys a b a' b' : List ℕ} {n m : ℕ} (l : Listed xs a n a') (k : Listed ys b m b') where
-  pub listed-mergeable : {r : ℕ} → T (ascending xs) → T (ascending ys) → length xs + length ys ≤ r → Mergeable (take n a') (take m b') r
-  listed-mergeable p q h = rw (listed-take l, listed-take k) (p, q, h)
+-- what is left of a list behind n members
+pub rest-length : (n : ℕ) (xs : List ℕ) → length (take (length xs - n) (drop n xs)) ≡ length xs - n
+rest-length n xs = let d = length-drop n xs in length-take-le (length xs - n) (drop n xs) (omega (arith, d))
 
-  pub listed-merged : {old new : List ℕ} → Merged (take n a') (take m b') old new
-      → Listed (addedAll xs ys) old (n + m) new
-  listed-merged e = record {
+-- two lists that were written one behind the other, merged
+module _ {xs ys old mid last : List ℕ} {n m : ℕ} (l : Listed xs old n mid) (s : length mid ≡ length old)
+    (k : Listed ys (take (length mid - n) (drop n mid)) m last) where
+  both-stand : putMid n (length mid - n) mid last ≡ xs ++ (ys ++ drop (n + m) old)
+  both-stand = listed-joined l s k .stands ∙ append-assoc xs ys (drop (n + m) old)
+
+  part-first : take n (putMid n (length mid - n) mid last) ≡ xs
+  part-first = rw both-stand (take-at xs (ys ++ drop (n + m) old) n (sym (l .many)))
+
+  part-second : take (n + m - n) (drop n (putMid n (length mid - n) mid last)) ≡ ys
+  part-second =
+      let i : n + m - n ≡ m = omega arith in
+      let d : drop n (xs ++ (ys ++ drop (n + m) old)) ≡ ys ++ drop (n + m) old = drop-at xs (ys ++ drop (n + m) old) n (sym (l .many)) in
+      rw (both-stand, i, d) (take-at ys (drop (n + m) old) m (sym (k .many)))
+
+  part-rest : drop (n + m) (putMid n (length mid - n) mid last) ≡ drop (n + m) old
+  part-rest =
+      let j = listed-joined l s k in
+      rw (j .stands) (drop-at (xs ++ ys) (drop (n + m) old) (n + m) (sym (j .many)))
+
+  pub listed-parts : T (ascending xs) → T (ascending ys) → Parts (putMid n (length mid - n) mid last) n (n + m)
+  listed-parts p q =
+      record { split = omega arith; inside = listed-fits (listed-joined l s k); first = rw part-first p; second = rw part-second q }
+
+  pub listed-merged : {new : List ℕ} → new ≡ joined (putMid n (length mid - n) mid last) n (n + m) → Listed (addedAll xs ys) old (n + m) new
+  listed-merged j = record {
     many = omega (arith, l .many, k .many, length-addedAll xs ys);
-    stands = rw (l .many, k .many) (rw (listed-take l, listed-take k) at e);
+    stands = rw (part-first, part-second, part-rest) at j;
   }
 
 -- ---- First(f) and Second(f)
@@ -70,17 +94,18 @@ module _ {L : Layout} {B f : ℕ} {img : List ℕ} (both : BothRead L B f img) w
   pub overflow-room : length (overflowIn L B f img) ≤ mostBehind L
   overflow-room = omega (arith, length-addedAll (bagIn L B f true img) (bagIn L B f false img), bag-room true, bag-room false)
 
--- both bags, listed where the choices lead to, merged
+-- both bags, listed where the choices lead to, one behind the other
 module _ {L : Layout} {B f : ℕ} {img : List ℕ} (both : BothRead L B f img) {w v : Overflow} (first : Leads true B f w) (second : Leads false B f v)
-    {a b a' b' : List ℕ} {n m : ℕ} (l : Listed (bagAt L B w img) a n a') (k : Listed (bagAt L B v img) b m b') where
-  pub bags-mergeable : {r : ℕ} → mostBehind L ≤ r → Mergeable (take n a') (take m b') r
-  bags-mergeable h =
-      listed-mergeable (bag-listed first L img l) (bag-listed second L img k) (bag-order both true) (bag-order both false)
-      (omega (arith, bag-room both true, bag-room both false))
+    {old mid last : List ℕ} {n m : ℕ} (l : Listed (bagAt L B w img) old n mid) (s : length mid ≡ length old)
+    (k : Listed (bagAt L B v img) (take (length mid - n) (drop n mid)) m last) where
+  pub bags-room : n + m ≤ mostBehind L
+  bags-room = omega (arith, bag-listed first L img l .many, bag-listed second L img k .many, bag-room both true, bag-room both false)
 
-  pub bags-merged : {old new : List ℕ} → Merged (take n a') (take m b') old new
-      → Listed (overflowIn L B f img) old (n + m) new
-  bags-merged e = listed-merged (bag-listed first L img l) (bag-listed second L img k) e
+  pub bags-parts : Parts (putMid n (length mid - n) mid last) n (n + m)
+  bags-parts = listed-parts (bag-listed first L img l) s (bag-listed second L img k) (bag-order both true) (bag-order both false)
+
+  pub bags-merged : {new : List ℕ} → new ≡ joined (putMid n (length mid - n) mid last) n (n + m) → Listed (overflowIn L B f img) old (n + m) new
+  bags-merged j = listed-merged (bag-listed first L img l) s (bag-listed second L img k) j
 
 -- ---- the members of a front bucket that was read
 
@@ -101,17 +126,17 @@ module _ {L : Layout} {B f : ℕ} {img : List ℕ} (r : MembersRead L B f img) w
   unfolding membersIn
   members-full h = rw (behind-full h .0)
 
-  -- those of a full front bucket and those behind it, merged
-  module _ (full : L .frontSlots ≤ length (inFront L f img)) {a b a' b' : List ℕ} {n m : ℕ} (l : Listed (inFront L f img) a n a')
-      (k : Listed (overflowIn L B f img) b m b') where
-    pub members-mergeable : {r : ℕ} → mostMembers L ≤ r → Mergeable (take n a') (take m b') r
-    members-mergeable h =
-        let both = behind-full full .1 in
-        listed-mergeable l k (r .front .list .order) (overflow-order both) (omega (arith, r .front .list .room, overflow-room both))
+  -- those of a full front bucket, and those behind it behind them
+  module _ (full : L .frontSlots ≤ length (inFront L f img)) {old mid last : List ℕ} {n m : ℕ} (l : Listed (inFront L f img) old n mid)
+      (s : length mid ≡ length old) (k : Listed (overflowIn L B f img) (take (length mid - n) (drop n mid)) m last) where
+    pub members-fit : n + m ≤ mostMembers L
+    members-fit = omega (arith, l .many, k .many, r .front .list .room, overflow-room (behind-full full .1))
 
-    pub members-merged : {old new : List ℕ} → Merged (take n a') (take m b') old new
-        → Listed (membersIn L B f img) old (n + m) new
-    members-merged e = rw (members-full full) (listed-merged l k e)
+    pub members-parts : Parts (putMid n (length mid - n) mid last) n (n + m)
+    members-parts = listed-parts l s k (r .front .list .order) (overflow-order (behind-full full .1))
+
+    pub members-merged : {new : List ℕ} → new ≡ joined (putMid n (length mid - n) mid last) n (n + m) → Listed (membersIn L B f img) old (n + m) new
+    members-merged j = rw (members-full full) (listed-merged l s k j)
 
   -- what holds of nothing and of First(f) and Second(f) holds of those that count
   either : (P : List ℕ → Type 0) → P [] → (BothRead L B f img → P (overflowIn L B f img)) → P (behindIn L B f img)

@@ -1,24 +1,25 @@
 -- Two ascending lists together, head by head: the next member of `addedAll` is the smaller of the two heads; and lists written member by member.
--- Main results: `merging-left` and `merging-right`, the turns of a merge of two lists; `mapped-on`, a turn of a list whose members are turned
--- into others.
-use mathlib.Core.Path.{_≡_, refl, sym, _∙_}
-use Prim.Native.Nat.{ℕ, zero, suc, _+_, _≤_, _<_}
-use mathlib.Core.Bool.{true, false}
+-- Main results: `merging-on`, a turn of a merge of two lists, and `merging-end`; `copying-on`, a turn of a copy; `parts-order`, two parts in order are one
+-- already, and `copy-merged`, they are one once merged; `mapped-on`, a turn of a list whose members are turned into others.
+use mathlib.Core.Path.{_≡_, refl, sym, ap, _∙_}
+use mathlib.Core.Logic.{_⊎_, inl, inr}
+use Prim.Native.Nat.{ℕ, zero, suc, _+_, _-_, _≤_, _<_}
+use mathlib.Core.Bool.{Bool, true, false, cond}
 use mathlib.Core.List.{List, [], _∷_, _++_, map, append-assoc, append-nil, map-append}
 use native.Mathlib.Decide.{decLe}
 use native.Mathlib.Numerals.{add-one}
 use native.Mathlib.Omega.{arith}
-use lib.ListN.{length, take, drop, getD, set, length-drop, length-set, length-map, take-append-drop, drop-of-length-le}
-use lib.Seq.{length-take-le, take-all, take-suc, drop-cons, drop-drop, set-at, take-suc-set, drop-set-lt}
-use lib.Dec.{T}
+use lib.ListN.{length, take, drop, getD, set, length-append, length-drop, length-set, length-map, take-append-drop, drop-of-length-le}
+use lib.Seq.{length-take-le, take-all, take-at, take-add, take-suc, drop-at, drop-cons, drop-drop, set-at, take-suc-set, drop-set-lt}
+use lib.Dec.{T, leb}
 use borrow.Author.Tests.{leb-true, leb-false}
 use Rattle.multiset.specs.Multisets.{added, copies, ascending}
-use Rattle.multiset.proofs.MultisetLaws.{hit-same, added-front, added-behind, copies-cons}
-use Rattle.multiset.proofs.OrderLaws.{head-least}
-use Rattle.multiset.proofs.SlotLaws.{ascending-drop}
+use Rattle.multiset.proofs.MultisetLaws.{hit-same, added-front, added-behind, copies-cons, copies-append}
+use Rattle.multiset.proofs.OrderLaws.{head-least, ascending-append, ascending-unique, largest-max}
+use Rattle.multiset.proofs.SlotLaws.{ascending-drop, largest-first}
 use Rattle.machine.specs.Bags.{addedAll}
-use Rattle.machine.proofs.BagLaws.{copies-addedAll}
-use Rattle.listing.specs.Steps.Listings.{Merged, fromLeft}
+use Rattle.machine.proofs.BagLaws.{copies-addedAll, ascending-addedAll, addedAll-nil}
+use Rattle.listing.specs.Steps.Listings.{Mergeable, Merged, Copied, Parts, joined}
 
 -- ---- which head comes first
 
@@ -43,44 +44,29 @@ right-first y (x ∷ xs) ys more =
     rw (right-first y xs ys (λ z h. more z (omega (arith, copies-cons z x xs))))
     (added-behind x y (addedAll xs ys) (more x (omega (arith, copies-cons x x xs, hit-same x))))
 
--- one turn of two lists: the head that comes first, and what is left
-left-turn : (xs ys : List ℕ) → T (ascending xs) → T (ascending ys) → fromLeft xs ys ≡ true
-    → (x : ℕ) × (zs : List ℕ) × (xs ≡ x ∷ zs) × (addedAll xs ys ≡ x ∷ addedAll zs ys)
-left-turn [] ys a b e = let z : _≡_ {A = ℕ} 0 1 = cc in absurd (omega arith)
-left-turn (x ∷ xs) [] a b e = (x, xs, refl, left-first x xs [] a (λ z h. absurd (unfold copies in omega arith)))
-left-turn (x ∷ xs) (y ∷ ys) a b e =
-    (x, xs, refl, left-first x xs (y ∷ ys) a (λ z h. omega (arith, leb-true x y e, head-least z y ys b h)))
+-- a turn of the merge, at i members of `a` and j of `b` done, both with members left
+merged-left : (a b : List ℕ) (i j : ℕ) → T (ascending a) → T (ascending b) → i < length a → j < length b → getD a i 0 ≤ getD b j 0
+    → addedAll (drop i a) (drop j b) ≡ getD a i 0 ∷ addedAll (drop (suc i) a) (drop j b)
+merged-left a b i j p q h k l =
+    let x = drop-cons a i 0 h in
+    let y = drop-cons b j 0 k in
+    let ys = rw y at (ascending-drop j b q) in
+    rw x (left-first (getD a i 0) (drop (suc i) a) (drop j b) (rw x at (ascending-drop i a p))
+    (rw y (λ z m. omega (arith, l, head-least z (getD b j 0) (drop (suc j) b) ys m))))
 
-right-turn : (xs ys : List ℕ) → T (ascending xs) → fromLeft xs ys ≡ false → 0 < length xs + length ys
-    → (y : ℕ) × (zs : List ℕ) × (ys ≡ y ∷ zs) × (addedAll xs ys ≡ y ∷ addedAll xs zs)
-right-turn [] [] a e p = absurd (omega arith)
-right-turn [] (y ∷ ys) a e p = (y, ys, refl, unfold addedAll in refl)
-right-turn (x ∷ xs) [] a e p = let z : _≡_ {A = ℕ} 0 1 = cc in absurd (omega arith)
-right-turn (x ∷ xs) (y ∷ ys) a e p =
-    (y, ys, refl, right-first y (x ∷ xs) ys (λ z h. omega (arith, leb-false x y e, head-least z x xs a h)))
+merged-right : (a b : List ℕ) (i j : ℕ) → T (ascending a) → i < length a → j < length b → getD b j 0 < getD a i 0
+    → addedAll (drop i a) (drop j b) ≡ getD b j 0 ∷ addedAll (drop i a) (drop (suc j) b)
+merged-right a b i j p h k l =
+    let x = drop-cons a i 0 h in
+    let xs = rw x at (ascending-drop i a p) in
+    rw (drop-cons b j 0 k) (right-first (getD b j 0) (drop i a) (drop (suc j) b)
+    (rw x (λ z m. omega (arith, l, head-least z (getD a i 0) (drop (suc i) a) xs m))))
 
--- the member in front of the rest of a list
-drop-head : (i x : ℕ) (xs zs : List ℕ) → drop i xs ≡ x ∷ zs → (i < length xs) × (getD xs i 0 ≡ x) × (drop (suc i) xs ≡ zs)
-drop-head zero x [] zs e = let z : _≡_ {A = ℕ} 0 1 = cc in absurd (omega arith)
-drop-head zero x (y ∷ ys) zs e = (omega arith, cc, cc)
-drop-head (suc i) x [] zs e = let z : _≡_ {A = ℕ} 0 1 = cc in absurd (omega arith)
-drop-head (suc i) x (y ∷ ys) zs e = let h = drop-head i x ys zs e in (omega arith, h .1, h .2)
-
--- a turn of the merge, at i members of `a` and j of `b` done
-merged-left : (a b : List ℕ) (i j : ℕ) → T (ascending a) → T (ascending b) → fromLeft (drop i a) (drop j b) ≡ true
-    → (i < length a) × (addedAll (drop i a) (drop j b) ≡ getD a i 0 ∷ addedAll (drop (suc i) a) (drop j b))
-merged-left a b i j p q e =
-    let t = left-turn (drop i a) (drop j b) (ascending-drop i a p) (ascending-drop j b q) e in
-    let h = drop-head i (t .0) a (t .1) (t .2) in
-    (h .0, rw (h .1, h .2) (t .3))
-
-merged-right : (a b : List ℕ) (i j : ℕ) → T (ascending a) → fromLeft (drop i a) (drop j b) ≡ false → i + j < length a + length b → i ≤ length a
-    → (j < length b) × (addedAll (drop i a) (drop j b) ≡ getD b j 0 ∷ addedAll (drop i a) (drop (suc j) b))
-merged-right a b i j p e l k =
-    let some : 0 < length (drop i a) + length (drop j b) = omega (arith, length-drop i a, length-drop j b) in
-    let t = right-turn (drop i a) (drop j b) (ascending-drop i a p) e some in
-    let h = drop-head j (t .0) b (t .1) (t .2) in
-    (h .0, rw (h .1, h .2) (t .3))
+-- where one has none left, what is left is the other
+merged-rest : (a b : List ℕ) (i j : ℕ) → T (ascending a) → (length a ≤ i) ⊎ (length b ≤ j) → addedAll (drop i a) (drop j b) ≡ drop i a ++ drop j b
+unfolding addedAll
+merged-rest a b i j p (inl h) = rw (drop-of-length-le a h)
+merged-rest a b i j p (inr h) = rw (drop-of-length-le b h, append-nil) (addedAll-nil (drop i a) (ascending-drop i a p))
 
 -- ---- lists that are written member by member
 
@@ -113,35 +99,170 @@ pub record Merging (a b old out : List ℕ) (i j : ℕ) : Type 0 where
 pub merging-start : (a b old : List ℕ) → Merging a b old old 0 0
 merging-start a b old = record { left = omega arith; right = omega arith; same = refl; stands = refl; behind = refl }
 
-module _ {a b old out : List ℕ} {i j : ℕ} (m : Merging a b old out i j) (room : length a + length b ≤ length old) where
-  pub merging-left : T (ascending a) → T (ascending b) → fromLeft (drop i a) (drop j b) ≡ true
-      → (i < length a) × (i + j < length out) × Merging a b old (set out (i + j) (getD a i 0)) (i + 1) j
-  merging-left p q e =
-      let t = merged-left a b i j p q e in
-      let l : i + j < length out = omega (arith, t .0, m .right, m .same) in
-      let w = written-on (i + j) (getD a i 0) (addedAll a b) (addedAll (drop (suc i) a) (drop j b)) old out l (m .same) (m .stands ∙ rw (t .1))
-      (m .behind) in
-      let k : i + 1 + j ≡ i + j + 1 = omega arith in
-      (t .0, l, record { left = omega (arith, t .0); right = m .right; same = w .0; stands = rw (k, add-one i) (w .1); behind = rw k (w .2) })
+-- a turn: the lesser of the two next members is written, and the list that gave it is one further
+module _ {a b old out : List ℕ} {i j : ℕ} (m : Merging a b old out i j) (room : length a + length b ≤ length old) (h : i < length a) (k : j < length b)
+  where
+    pub merging-room : i + j < length out
+    merging-room = omega (arith, m .same)
 
-  pub merging-right : T (ascending a) → i + j < length a + length b → fromLeft (drop i a) (drop j b) ≡ false
-      → (j < length b) × (i + j < length out) × Merging a b old (set out (i + j) (getD b j 0)) i (j + 1)
-  merging-right p h e =
-      let t = merged-right a b i j p e h (m .left) in
-      let l : i + j < length out = omega (arith, m .same) in
-      let w = written-on (i + j) (getD b j 0) (addedAll a b) (addedAll (drop i a) (drop (suc j) b)) old out l (m .same) (m .stands ∙ rw (t .1))
-      (m .behind) in
-      let k : i + (j + 1) ≡ i + j + 1 = omega arith in
-      (t .0, l, record { left = m .left; right = omega (arith, t .0); same = w .0; stands = rw (k, add-one j) (w .1); behind = rw k (w .2) })
+    merging-left : T (ascending a) → T (ascending b) → getD a i 0 ≤ getD b j 0 → Merging a b old (set out (i + j) (getD a i 0)) (i + 1) (j + 0)
+    merging-left p q e =
+        let w = written-on (i + j) (getD a i 0) (addedAll a b) (addedAll (drop (suc i) a) (drop j b)) old out merging-room (m .same)
+        (m .stands ∙ rw (merged-left a b i j p q h k e)) (m .behind) in
+        let n : i + 1 + (j + 0) ≡ i + j + 1 = omega arith in
+        let z : j + 0 ≡ j = omega arith in
+        record { left = omega arith; right = omega arith; same = w .0; stands = rw (n, z, add-one i) (w .1); behind = rw n (w .2) }
 
-pub merging-end : {a b old out : List ℕ} {i j : ℕ} → Merging a b old out i j → length a + length b ≤ i + j
-    → Merged a b old out
-unfolding addedAll
-merging-end {a} {b} {old} {out} {i} {j} m h =
-    let x : length a ≤ i = omega (arith, m .right) in
-    let y : length b ≤ j = omega (arith, m .left) in
-    let k : i + j ≡ length a + length b = omega (arith, m .left, m .right) in
-    rw (← k) (written-all (i + j) (addedAll a b) old out (m .stands ∙ rw (drop-of-length-le a x, drop-of-length-le b y)) (m .behind))
+    merging-right : T (ascending a) → getD b j 0 < getD a i 0 → Merging a b old (set out (i + j) (getD b j 0)) (i + 0) (j + 1)
+    merging-right p e =
+        let w = written-on (i + j) (getD b j 0) (addedAll a b) (addedAll (drop i a) (drop (suc j) b)) old out merging-room (m .same)
+        (m .stands ∙ rw (merged-right a b i j p h k e)) (m .behind) in
+        let n : i + 0 + (j + 1) ≡ i + j + 1 = omega arith in
+        let z : i + 0 ≡ i = omega arith in
+        record { left = omega arith; right = omega arith; same = w .0; stands = rw (n, z, add-one j) (w .1); behind = rw n (w .2) }
+
+    pub merging-on : {key left : ℕ} → T (ascending a) → T (ascending b) → let x = getD a i 0 in let y = getD b j 0 in
+        key ≡ cond (leb x y) x y → left ≡ cond (leb x y) 1 0 → Merging a b old (set out (i + j) key) (i + left) (j + (1 - left))
+    merging-on p q e f = rw (e, f) (go (leb (getD a i 0) (getD b j 0)) refl)
+      where
+        go : (t : Bool) → leb (getD a i 0) (getD b j 0) ≡ t
+            → Merging a b old (set out (i + j) (cond t (getD a i 0) (getD b j 0))) (i + cond t 1 0) (j + (1 - cond t 1 0))
+        go true e = merging-left p q (leb-true _ _ e)
+        go false e = merging-right p (leb-false _ _ e)
+
+-- the rest of both is copied behind what stands, where one has none left
+pub merging-end : {a b old out : List ℕ} {i j : ℕ} {next new : List ℕ} → Merging a b old out i j → length a + length b ≤ length old → T (ascending a)
+    → (length a ≤ i) ⊎ (length b ≤ j) → Copied a i out (i + j) next → Copied b j next (length a + j) new → Merged a b old new
+merging-end {a} {b} {old} {out} {i} {j} {next} {new} m room p none e f =
+    let stood = take (i + j) out ++ drop i a in
+    let rest = drop (i + j + (length a - i)) out in
+    let long : length stood ≡ length a + j =
+    length-append (take (i + j) out) (drop i a) ∙ omega (arith, length-take-le (i + j) out (omega (arith, m .same, m .left, m .right)), length-drop i a, m .left) in
+    let first : take (length a + j) next ≡ stood = rw (e .stands) (take-at stood rest (length a + j) long) in
+    let next-rest : drop (length a + j) next ≡ rest = rw (e .stands) (drop-at stood rest (length a + j) long) in
+    let more = length a + length b - (i + j) in
+    let x : i + j + (length a - i) + (length b - j) ≡ i + j + more = omega (arith, m .left, m .right) in
+    let y : length a + length b ≡ i + j + more = omega (arith, m .left, m .right) in
+    let past : drop (length b - j) rest ≡ drop (length a + length b) old =
+    drop-drop (length b - j) (i + j + (length a - i)) out ∙ ap (λ (k : ℕ). drop k out) x ∙ sym (drop-drop more (i + j) out)
+    ∙ ap (drop more) (m .behind) ∙ drop-drop more (i + j) old ∙ ap (λ (k : ℕ). drop k old) (sym y) in
+    let behind : drop (length a + j + (length b - j)) next ≡ drop (length a + length b) old =
+    sym (drop-drop (length b - j) (length a + j) next) ∙ rw next-rest past in
+    f .stands ∙ rw (first, behind) (ap (λ (l : List ℕ). l ++ drop (length a + length b) old)
+    (append-assoc (take (i + j) out) (drop i a) (drop j b) ∙ sym (m .stands ∙ rw (merged-rest a b i j p none))))
+
+-- a copy of `keys` from one on over `old` from `at` on, at k members done
+pub record Copying (keys old out : List ℕ) (from at k : ℕ) : Type 0 where
+  pub within : from + k ≤ length keys
+  pub same : length out ≡ length old
+  pub stands : take at old ++ drop from keys ≡ take (at + k) out ++ drop (from + k) keys
+  pub behind : drop (at + k) out ≡ drop (at + k) old
+
+pub copying-start : (keys old : List ℕ) (from at : ℕ) → from ≤ length keys → Copying keys old old from at 0
+copying-start keys old from at h =
+    let x : at + 0 ≡ at = omega arith in
+    let y : from + 0 ≡ from = omega arith in
+    record { within = omega arith; same = refl; stands = rw (x, y); behind = refl }
+
+pub copying-on : {keys old out : List ℕ} {from at k : ℕ} → Copying keys old out from at k → from + k < length keys → at + k < length old
+    → Copying keys old (set out (at + k) (getD keys (from + k) 0)) from at (k + 1)
+copying-on {keys} {old} {out} {from} {at} {k} m h l =
+    let w = written-on (at + k) (getD keys (from + k) 0) (take at old ++ drop from keys) (drop (suc (from + k)) keys) old out (omega (arith, m .same)) (m .same)
+    (m .stands ∙ rw (drop-cons keys (from + k) 0 h)) (m .behind) in
+    let x : at + (k + 1) ≡ at + k + 1 = omega arith in
+    let y : from + (k + 1) ≡ suc (from + k) = omega arith in
+    record { within = omega arith; same = w .0; stands = rw (x, y) (w .1); behind = rw x (w .2) }
+
+pub copying-end : {keys old out : List ℕ} {from at k : ℕ} → Copying keys old out from at k → length keys - from ≤ k → Copied keys from old at out
+copying-end {keys} {old} {out} {from} {at} {k} m h =
+    let e : k ≡ length keys - from = omega (arith, m .within) in
+    let none : length keys ≤ from + k = omega arith in
+    record { stands = rw (← e) (written-all (at + k) (take at old ++ drop from keys) old out (m .stands ∙ rw (drop-of-length-le keys none)) (m .behind)) }
+
+pub copied-length : {keys old new : List ℕ} {from at : ℕ} → Copied keys from old at new → from ≤ length keys → at + (length keys - from) ≤ length old
+    → length new ≡ length old
+copied-length {keys} {old} {new} {from} {at} e h l = omega (
+  arith,
+  ap length (e .stands),
+  length-append (take at old ++ drop from keys) (drop (at + (length keys - from)) old),
+  length-append (take at old) (drop from keys),
+  length-take-le at old (omega arith),
+  length-drop from keys,
+  length-drop (at + (length keys - from)) old,
+)
+
+-- ---- two ascending parts of a list
+
+-- lists in order: no member of the first exceeds one of the second
+appended : (xs ys : List ℕ) → T (ascending xs) → T (ascending ys) → ((x y : ℕ) → 0 < copies x xs → 0 < copies y ys → x ≤ y) → addedAll xs ys ≡ xs ++ ys
+appended xs ys p q h =
+    ascending-unique _ _ (ascending-addedAll xs ys q) (ascending-append xs ys p q h) (λ z. copies-addedAll z xs ys ∙ sym (copies-append z xs ys))
+
+module _ {keys : List ℕ} {from end : ℕ} (p : Parts keys from end) where
+  -- in order as they stand, they are one already
+  parts-appended : ((x y : ℕ) → 0 < copies x (take from keys) → 0 < copies y (take (end - from) (drop from keys)) → x ≤ y) → joined keys from end ≡ keys
+  parts-appended h =
+      let e : from + (end - from) ≡ end = omega (arith, p .split) in
+      rw (appended (take from keys) (take (end - from) (drop from keys)) (p .first) (p .second) h, sym (take-add from (end - from) keys), e)
+      (take-append-drop end keys)
+
+  pub parts-empty : (from ≡ 0) ⊎ (from ≡ end) → joined keys from end ≡ keys
+  unfolding copies
+  parts-empty (inl e) = parts-appended (rw e (λ x y h. absurd (omega arith)))
+  parts-empty (inr e) = let z : end - from ≡ 0 = omega arith in parts-appended (rw z (λ x y h k. absurd (omega arith)))
+
+  pub parts-order : 0 < from → from < end → getD keys (from - 1) 0 ≤ getD keys from 0 → joined keys from end ≡ keys
+  parts-order some less h = parts-appended λ x y a b. omega (
+    arith,
+    h,
+    largest-max x (take from keys) (p .first) a,
+    largest-first from keys some (omega (arith, p .inside)),
+    least y (end - from) (omega arith) (p .second) b,
+  )
+    where
+      least : (y k : ℕ) → 0 < k → T (ascending (take k (drop from keys))) → 0 < copies y (take k (drop from keys)) → getD keys from 0 ≤ y
+      least y zero l q b = absurd (omega arith)
+      least y (suc k) l q b =
+          let e = drop-cons keys from 0 (omega (arith, p .inside)) in
+          head-least y (getD keys from 0) (take k (drop (suc from) keys)) (rw e at q) (rw e at b)
+
+  -- a copy of both has the same parts
+  module _ {old copy : List ℕ} (c : Copied (take end keys) 0 old 0 copy) where
+    copy-is : take end copy ≡ take from keys ++ take (end - from) (drop from keys)
+    copy-is =
+        let l : length (take end keys) ≡ end = length-take-le end keys (p .inside) in
+        let e : from + (end - from) ≡ end = omega (arith, p .split) in
+        rw (c .stands) (take-at (take end keys) (drop (0 + (length (take end keys) - 0)) old) end l) ∙ sym (ap (λ (k : ℕ). take k keys) e)
+        ∙ take-add from (end - from) keys
+
+    first-long : length (take from keys) ≡ from
+    first-long = length-take-le from keys (omega (arith, p .split, p .inside))
+
+    second-long : length (take (end - from) (drop from keys)) ≡ end - from
+    second-long = length-take-le (end - from) (drop from keys) (omega (arith, length-drop from keys, p .inside))
+
+    pub copy-long : length (take end copy) ≡ end
+    copy-long =
+        ap length copy-is
+        ∙ omega (arith, length-append (take from keys) (take (end - from) (drop from keys)), first-long, second-long, p .split)
+
+    pub copy-first : take from (take end copy) ≡ take from keys
+    copy-first = rw copy-is (take-at (take from keys) (take (end - from) (drop from keys)) from first-long)
+
+    pub copy-second : take (length (take end copy) - from) (drop from (take end copy)) ≡ take (end - from) (drop from keys)
+    copy-second =
+        let d : drop from (take end copy) ≡ take (end - from) (drop from keys) =
+        rw copy-is (drop-at (take from keys) (take (end - from) (drop from keys)) from first-long) in
+        rw (copy-long, d) (take-all (end - from) (take (end - from) (drop from keys)) (omega (arith, second-long)))
+
+    pub copy-mergeable : Mergeable (take from (take end copy)) (take (length (take end copy) - from) (drop from (take end copy))) (length keys)
+    copy-mergeable = rw (copy-second, copy-first) (p .first, p .second, omega (arith, first-long, second-long, p .split, p .inside))
+
+    pub copy-merged : {new : List ℕ}
+        → Merged (take from (take end copy)) (take (length (take end copy) - from) (drop from (take end copy))) keys new → new ≡ joined keys from end
+    copy-merged e =
+        let l : length (take from keys) + length (take (end - from) (drop from keys)) ≡ end = omega (arith, first-long, second-long, p .split) in
+        rw l at (rw (copy-second, copy-first) at e)
 
 -- each member of a list turned into another, one more written
 pub mapped-on : (g : ℕ → ℕ) (keys old out : List ℕ) (i : ℕ) → i < length keys → length keys ≤ length old → out ≡ map g (take i keys) ++ drop i old

@@ -2,12 +2,11 @@
 // elsewhere the members are those of Front alone."
 
 use crate::MemberCount;
-use crate::lists::merge_into;
+use crate::lists::merge_parts;
 use crumbmap::Front;
 use crumbmap::Overflow;
 use crumbmap::layout::BACK_SLOTS;
 use crumbmap::layout::FRONT_SLOTS;
-use crumbmap::layout::MOST_BEHIND;
 use crumbmap::map::first_of;
 use crumbmap::map::second_of;
 use crumbmap::map::ways_of;
@@ -90,31 +89,31 @@ fn list_full(image: &[u8], size: usize, front: Front, out: &mut [u32]) -> usize
         × (length (now out) ≡ mostMembers layout1) ⌝ }
     ensures { λ r. ⌜ Listed (membersIn layout1 size (front .0) (now (image .entry))) (now (out .entry)) r (now (out .exit)) ⌝ }
 {
-    let mut keys = [0u32; FRONT_SLOTS];
-    let mut over = [0u32; MOST_BEHIND];
-    let n = list_front(bucket(image, front.0), &mut keys);
-    let m = list_overflow(image, size, front, &mut over);
-    merge_into(&keys[..n], &over[..m], out);
+    let n = list_front(bucket(image, front.0), &mut out[..FRONT_SLOTS]);
+    let m = list_overflow(image, size, front, &mut out[n..]);
+    merge_parts(out, n, n + m);
     n + m
 }
 
 // First(f) and Second(f), ascending, into the start of `out`; how many.
 fn list_overflow(image: &[u8], size: usize, front: Front, out: &mut [u32]) -> usize
-    requires { ⌜ BackyardRead layout1 size (front .0) (now image) × (length (now out) ≡ mostBehind layout1) ⌝ }
+    requires { ⌜ BackyardRead layout1 size (front .0) (now image) × (mostBehind layout1 ≤ length (now out)) ⌝ }
     ensures { λ r. ⌜ Listed (overflowIn layout1 size (front .0) (now (image .entry))) (now (out .entry)) r (now (out .exit)) ⌝ }
 {
-    let mut first = [0u32; BACK_SLOTS];
-    let mut second = [0u32; BACK_SLOTS];
-    let n = list_bag(image, size, first_of(front, size), &mut first);
-    let m = list_bag(image, size, second_of(front, size), &mut second);
-    merge_into(&first[..n], &second[..m], out);
+    let n = list_bag(image, size, first_of(front, size), out);
+    let m = list_bag(image, size, second_of(front, size), &mut out[n..]);
+    merge_parts(out, n, n + m);
     n + m
 }
 
 // The keys that carry a crumb in a backyard bucket that was read, ascending, into the start of `out`; how many.
 fn list_bag(image: &[u8], size: usize, way: Overflow, out: &mut [u32]) -> usize
-    requires { ⌜ BagRead layout1 size way (now image) × (length (now out) ≡ layout1 .backSlots) ⌝ }
+    requires { ⌜ BagRead layout1 size way (now image) × (layout1 .backSlots ≤ length (now out)) ⌝ }
     ensures { λ r. ⌜ Listed (bagAt layout1 size way (now (image .entry))) (now (out .entry)) r (now (out .exit)) ⌝ }
 {
-    list_carrying(back_bucket(image, size, way.bucket), way.crumb, out)
+    list_carrying(
+        back_bucket(image, size, way.bucket),
+        way.crumb,
+        &mut out[..BACK_SLOTS],
+    )
 }

@@ -16,8 +16,8 @@ use image::place::bucket;
 use image::place::target_of;
 use minifilter::Reading;
 use search::Search;
+use search::find::find_front;
 use search::find::largest_front;
-use search::find::seek_front;
 use tails::Opening;
 use tails::open::open_image;
 ghost use mathlib.Core.Path.{_≡_};
@@ -51,7 +51,7 @@ fn ask_at(image: &[u8], target: Target) -> AskResult
         return AskResult::Refused(Refusal::Unsound(front.0));
     };
     let b = bucket(image, front.0);
-    match seek_front(b, key) {
+    match find_front(b, key) {
         Search::At(slot, copies) => AskResult::Accepted(Asked {
             reads: 1,
             place: Place::Front(slot),

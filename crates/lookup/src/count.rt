@@ -19,8 +19,8 @@ use image::place::bucket;
 use image::place::target_of;
 use minifilter::Reading;
 use search::find::copies_of;
+use search::find::find_front;
 use search::find::largest_front;
-use search::find::seek_front;
 use tails::Opening;
 use tails::open::open_image;
 ghost use mathlib.Core.Path.{_≡_};
@@ -57,7 +57,7 @@ fn count_at(image: &[u8], target: Target) -> CountResult
         return CountResult::Refused(Refusal::Unsound(front.0));
     };
     let b = bucket(image, front.0);
-    let copies = copies_of(seek_front(b, key));
+    let copies = copies_of(find_front(b, key));
     if n < FRONT_SLOTS {
         return CountResult::Accepted(Counted { copies, reads: 1 });
     }

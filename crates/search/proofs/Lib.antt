@@ -3,3 +3,4 @@ pub mod SearchLaws
 pub mod FoundLaws
 pub mod ListLaws
 pub mod TagLaws
+pub mod HalfLaws

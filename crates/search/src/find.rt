@@ -19,7 +19,7 @@ ghost use Rattle.words.specs.Select.{selectTable};
 ghost use Rattle.minifilter.specs.Steps.Readings.{SoundFront, SoundBack, membersOf};
 ghost use Rattle.minifilter.specs.Steps.Slots.{slotsOf, spanOf, lowAt, tagAt};
 ghost use Rattle.minifilter.specs.Steps.Marks.{marksOf};
-ghost use Rattle.search.specs.Steps.Searches.{Scanned, RankOf, Seekable, Standing, searchOf, slotElse, manyIn, endOf1};
+ghost use Rattle.search.specs.Steps.Searches.{Scanned, RankOf, Seekable, Standing, Marked, searchOf, slotElse, manyIn, endOf1};
 
 // A front bucket's last slot.
 const LAST: usize = FRONT_SLOTS - 1;
@@ -96,14 +96,7 @@ fn find_in(b: &[u8], crumbs: bool, slot: usize, mini: u32, low: u32) -> Search
     Search::At(slot, scan(b, crumbs, slot + 1, past, low + 1) - slot)
 }
 
-// The same for a key in a front bucket, and for a member in a backyard bucket: the reader gave the slot.
-pub fn find_front(b: &[u8], slot: usize, key: u32) -> Search
-    requires { ⌜ SoundFront layout1 (now b) × (key < keys layout1) × (slot ≡ below key (frontList layout1 (now b))) ⌝ }
-    ensures { λ r. ⌜ r ≡ searchOf (foundIn key (frontList layout1 (now (b .entry)))) ⌝ }
-{
-    find_in(b, false, slot, key / TAGS, key % TAGS)
-}
-
+// The same for a member of a backyard bucket: the reader gave the slot.
 pub fn find_back(b: &[u8], slot: usize, member: u32) -> Search
     requires { ⌜ SoundBack layout1 (now b) × (member < keys layout1 * 16) × (slot ≡ below member (backList layout1 (now b))) ⌝ }
     ensures { λ r. ⌜ r ≡ searchOf (foundIn member (backList layout1 (now (b .entry)))) ⌝ }
@@ -127,16 +120,16 @@ fn seek_in(b: &[u8], crumbs: bool, mini: u32, low: u32) -> Search
     find_in(b, crumbs, slot, mini, low)
 }
 
-// A mark for each slot of a front bucket that holds a tag, in use or not: 2 for the lowest. No slot ends the loop, and the marks are from 2 on and
-// alike, so that many slots are compared at once.
-fn marks_of(b: &[u8], tag: u32) -> u32
-    requires { ⌜ length (now b) ≡ 64 ⌝ }
-    ensures { λ r. ⌜ r ≡ 2 * marksOf (tagAt layout1 false (now (b .entry))) tag 0 (layout1 .frontSlots) ⌝ }
+// A mark for each of the first slots of a front bucket that holds a tag, in use or not: 2 for the lowest. No slot ends the loop, and the marks are from
+// 2 on and alike, so that many slots are compared at once.
+fn marks_of(b: &[u8], slots: usize, tag: u32) -> u32
+    requires { ⌜ (length (now b) ≡ 64) × (slots ≤ layout1 .frontSlots) ⌝ }
+    ensures { λ r. ⌜ r ≡ 2 * marksOf (tagAt layout1 false (now (b .entry))) tag 0 slots ⌝ }
 {
     let mut marks: u32 = 0;
     let mut mark: u32 = 2;
     let mut slot: usize = 0;
-    while slot < FRONT_SLOTS {
+    while slot < slots {
         if slots::tag_of(b, slot) == tag {
             marks |= mark;
         }
@@ -154,7 +147,7 @@ fn slot_front(b: &[u8], key: u32) -> usize
 {
     let mini = key / TAGS;
     let tag = key % TAGS;
-    let marks = marks_of(b, tag);
+    let marks = marks_of(b, FRONT_SLOTS, tag);
     if marks == 0 {
         return FRONT_SLOTS;
     }
@@ -182,8 +175,8 @@ fn copies_front(b: &[u8], slot: usize, mini: u32, tag: u32) -> usize
     1
 }
 
-// Where a key stands in a front bucket that the reader gave no slot of.
-pub fn seek_front(b: &[u8], key: u32) -> Search
+// Where a key stands in a front bucket.
+pub fn find_front(b: &[u8], key: u32) -> Search
     requires { ⌜ SoundFront layout1 (now b) × (key < keys layout1) ⌝ }
     ensures { λ r. ⌜ r ≡ searchOf (foundIn key (frontList layout1 (now (b .entry)))) ⌝ }
 {
@@ -192,6 +185,39 @@ pub fn seek_front(b: &[u8], key: u32) -> Search
         return Search::Absent;
     }
     Search::At(slot, copies_front(b, slot, key / TAGS, key % TAGS))
+}
+
+// The copies of a key, by the marks of its tag from its lowest slot on: those in a row, as far as they are its mini-bucket's. Mostly there is one.
+fn copies_marked(b: &[u8], slot: usize, mini: u32, tag: u32, marks: u32) -> usize
+    requires { ⌜ Marked layout1 (now b) slot mini tag marks ⌝ }
+    ensures { λ r. ⌜ r ≡ copies (mini * tags layout1 + tag) (frontList layout1 (now (b .entry))) ⌝ }
+{
+    if marks / 2 % 2 == 0 {
+        return 1;
+    }
+    let rest = past_of(b, false, slot, mini, tag) - slot;
+    let run = u32::trailing_zeros(marks + 1) as usize;
+    if rest < run { rest } else { run }
+}
+
+// The same search for many keys in turn. It has one caller, and the slots are told by the bucket's length: so all of it becomes part of that caller's
+// loop, which a row feels.
+pub fn seek_front(b: &[u8], key: u32) -> Search
+    requires { ⌜ SoundFront layout1 (now b) × (key < keys layout1) ⌝ }
+    ensures { λ r. ⌜ r ≡ searchOf (foundIn key (frontList layout1 (now (b .entry)))) ⌝ }
+{
+    let mini = key / TAGS;
+    let tag = key % TAGS;
+    let marks = marks_of(b, (b.len() - slots::TAGS_AT) / 2, tag);
+    if marks == 0 {
+        return Search::Absent;
+    }
+    let place = u32::trailing_zeros(marks);
+    let slot = (place - 1) as usize;
+    if word::is_slot_of(word::word_of(b), mini, slot) {
+        return Search::At(slot, copies_marked(b, slot, mini, tag, marks >> place));
+    }
+    seek_in(b, false, mini, tag)
 }
 
 // Where a member stands in a backyard bucket that the reader gave no slot of.

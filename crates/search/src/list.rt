@@ -10,13 +10,23 @@ ghost use mathlib.Core.Path.{_≡_};
 ghost use Prim.Native.Nat.{_+_, _*_, _-_, _<_, _≤_};
 ghost use mathlib.Core.Bool.{false};
 ghost use mathlib.Core.List.{_++_};
-ghost use lib.ListN.{length, drop, getD};
+ghost use lib.ListN.{length, take, drop, getD};
 ghost use lib.Count.{trailingZeros};
+ghost use Rattle.multiset.specs.Multisets.{copies};
+ghost use Rattle.multiset.specs.Digits.{digits};
 ghost use Rattle.crumbmap.specs.Layouts.{layout1, tags};
 ghost use Rattle.buckets.specs.Buckets.{carrying, frontList, backList};
 ghost use Rattle.minifilter.specs.Steps.Readings.{SoundFront, SoundBack, Sound, membersOf};
 ghost use Rattle.minifilter.specs.Steps.Slots.{slotsOf, tagAt};
-ghost use Rattle.search.specs.Steps.Searches.{wantedAt, chosen, firstOf, OnSlot};
+ghost use Rattle.search.specs.Steps.Searches.{wantedAt, chosen, firstOf, OnSlot, halfMarks};
+
+// Crumbs are compared as two numbers of eight bytes: that of the first slots, and that of the others, which ends with the bucket.
+const NEAR: usize = 8;
+
+const FAR_AT: usize = slots::CRUMBS_AT + NEAR / 2;
+
+// A one at the lowest bit of each half.
+const ONES: u64 = 0x1111111111111111;
 
 // The key of the slot whose zero is the lowest of `zeros`.
 fn key_at(b: &[u8], zeros: u64, slot: usize) -> u32
@@ -131,13 +141,32 @@ pub fn count_carrying(b: &[u8], crumb: u32) -> usize
     ensures { λ r. ⌜ r ≡ length (carrying crumb (backList layout1 (now (b .entry)))) ⌝ }
 {
     let members = word::occupancy(word::word_of(b));
-    let mut slot: usize = 0;
-    let mut n: usize = 0;
-    while slot < members {
-        if slots::crumb_of(b, slot) == crumb {
-            n += 1;
-        }
-        slot += 1;
-    }
-    n
+    let near = near_of(members);
+    let low = word::word_of(&b[slots::CRUMBS_AT..]);
+    let high = word::word_of(&b[FAR_AT..]);
+    copies_in(low, crumb, near) + copies_in(high, crumb, members - near)
+}
+
+// How many slots in use have their crumbs in the first number.
+fn near_of(members: usize) -> usize
+    ensures { λ r. ⌜ (r ≤ 8) × (r ≤ members) × (members < 8 → r ≡ members) × (8 ≤ members → r ≡ 8) ⌝ }
+{
+    if members < NEAR { members } else { NEAR }
+}
+
+// How many of the n lowest halves of a number are a crumb.
+fn copies_in(halves: u64, crumb: u32, n: usize) -> usize
+    requires { ⌜ (crumb < 16) × (n < 16) ⌝ }
+    ensures { λ r. ⌜ r ≡ copies crumb (take n (digits 16 16 halves)) ⌝ }
+{
+    let same = zero_halves(halves ^ ((crumb as u64) * ONES));
+    u64::count_ones(same & ((1u64 << (4 * n)) - 1)) as usize
+}
+
+// A one at the lowest bit of each half that is 0: the bits of a half are gathered in its lowest.
+fn zero_halves(x: u64) -> u64
+    ensures { λ r. ⌜ r ≡ halfMarks 0 (digits 16 16 x) ⌝ }
+{
+    let pairs = x | (x >> 2);
+    !(pairs | (pairs >> 1)) & ONES
 }

@@ -1,10 +1,10 @@
 -- What listing the members of a front bucket asks and says: those in front with those behind it, and lists that are merged.
 use mathlib.Core.Path.{_≡_}
-use Prim.Native.Nat.{ℕ, _+_, _≤_}
-use mathlib.Core.Bool.{Bool, true, false, cond}
-use mathlib.Core.List.{List, [], _∷_, _++_}
-use lib.ListN.{length, drop}
-use lib.Dec.{T, leb, ltb}
+use Prim.Native.Nat.{ℕ, _+_, _-_, _≤_}
+use mathlib.Core.Bool.{cond}
+use mathlib.Core.List.{List, [], _++_}
+use lib.ListN.{length, take, drop}
+use lib.Dec.{T, ltb}
 use Rattle.multiset.specs.Multisets.{ascending}
 use Rattle.crumbmap.specs.Layouts.{Layout}
 use Rattle.crumbmap.specs.declared.Overflow.{Overflow}
@@ -52,8 +52,16 @@ Mergeable a b room = T (ascending a) × T (ascending b) × (length a + length b 
 abbrev pub Merged : List ℕ → List ℕ → List ℕ → List ℕ → Type 0
 Merged a b old new = new ≡ addedAll a b ++ drop (length a + length b) old
 
--- of two ascending lists, the left one's head comes first
-abbrev pub fromLeft : List ℕ → List ℕ → Bool
-fromLeft [] ys = false
-fromLeft (x ∷ xs) [] = true
-fromLeft (x ∷ xs) (y ∷ ys) = leb x y
+-- the keys of a list from one on, copied into `old` from `at` on, which is `new` after it
+pub record Copied (keys : List ℕ) (from : ℕ) (old : List ℕ) (at : ℕ) (new : List ℕ) : Type 0 where
+  pub stands : new ≡ (take at old ++ drop from keys) ++ drop (at + (length keys - from)) old
+
+-- two ascending parts of a list, one behind the other: up to `from`, and from there to `end`; and the list with both as one
+pub record Parts (keys : List ℕ) (from end : ℕ) : Type 0 where
+  pub split : from ≤ end
+  pub inside : end ≤ length keys
+  pub first : T (ascending (take from keys))
+  pub second : T (ascending (take (end - from) (drop from keys)))
+
+abbrev pub joined : List ℕ → ℕ → ℕ → List ℕ
+joined keys from end = addedAll (take from keys) (take (end - from) (drop from keys)) ++ drop end keys

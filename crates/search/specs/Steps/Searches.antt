@@ -45,10 +45,20 @@ module _ (L : Layout) (crumbs : Bool) where
     pub smaller : (i : ℕ) → from ≤ i → i < r → lowAt L crumbs b i < low
     pub here : r < past → low ≤ lowAt L crumbs b r
 
+-- the marks of a list of halves, the lowest first: 1 where a half is c, at its lowest bit
+unfoldable pub halfMarks : ℕ → List ℕ → ℕ
+halfMarks c [] = 0
+halfMarks c (h ∷ hs) = cond (eqb h c) 1 0 + 16 * halfMarks c hs
+
 -- a key of mini-bucket m and tag t stands in a front bucket, from `slot` on
 pub record Standing (L : Layout) (b : List ℕ) (slot m t : ℕ) : Type 0 where
   pub rank : RankOf L false b slot m t
   pub there : 0 < copies (m * tags L + t) (membersOf L false b)
+
+-- the same, and the marks of the slots from there on that hold t
+pub record Marked (L : Layout) (b : List ℕ) (slot m t marks : ℕ) : Type 0 where
+  pub standing : Standing L b slot m t
+  pub marks-are : marks ≡ marksOf (tagAt L false b) t slot (L .frontSlots - slot)
 
 -- what a search gives, and the copies that it found
 abbrev pub searchOf : Option Found → Search

@@ -1,19 +1,11 @@
 -- `borders::border::piece` meets its contract line by line: antt computes the rule at each value. The last line's is the one value left.
 use mathlib.Core.Path.{_≡_, sym, ap}
-use Prim.Native.Nat.{ℕ, zero, suc, _+_, _*_, _≤_, _<_, zero-le}
+use Prim.Native.Nat.{ℕ, _+_, _*_, _<_}
 use native.Mathlib.Omega.{arith}
+use Rattle.crumbmap.proofs.TestLaws.{None, none-below}
 use Rattle.borders.specs.Steps.Borders.{zerosIn, endsIn}
 use Rattle.borders.proofs.border.piece.Statement.{statement}
 use Rattle.borders.proofs.border.piece.Tie as tie
-
--- x is none of the first n numbers
-abbrev None : ℕ → ℕ → Type 0
-None x zero = Unit
-None x (suc n) = None x n × (x ≡ n → ⊥)
-
-none-below : (n x : ℕ) → None x n → n ≤ x
-none-below zero x h = zero-le
-none-below (suc n) x h = omega (arith, none-below n x (h .0), h .1)
 
 -- what a value has to give
 abbrev rule : ℕ → ℕ

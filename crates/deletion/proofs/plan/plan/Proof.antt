@@ -24,10 +24,10 @@ start c = c .before .before .before
 abbrev read : tie.After-known-told → tie.After-sound-front-at
 read c = c .before .before .before
 
-abbrev sound : tie.After-seek-front → tie.After-known-told
+abbrev sound : tie.After-find-front → tie.After-known-told
 sound c = c .before .before
 
-abbrev sought : tie.After-known-told2 → tie.After-seek-front
+abbrev sought : tie.After-known-told2 → tie.After-find-front
 sought c = c .before .before .before
 
 -- the members of the front bucket
@@ -43,8 +43,8 @@ front c =
     (t .0, t .1)
 
 -- what was found there
-near : (c : tie.After-seek-front) → c .seek-front .result ≡ searchOf (foundIn (start (read (sound c)) .args .target .key) (members (sound c)))
-near c = rw (c .before .bucket .ensures .0) at (c .seek-front .ensures)
+near : (c : tie.After-find-front) → c .find-front .result ≡ searchOf (foundIn (start (read (sound c)) .args .target .key) (members (sound c)))
+near c = rw (c .before .bucket .ensures .0) at (c .find-front .ensures)
 
 -- a copy, at the slot behind the members below it
 there : (c : tie.After-known-told2) → let k = sound (sought c) in let x = start (read k) .args .target .key in
@@ -69,8 +69,8 @@ returns c =
 bucket-requires : tie.Need-bucket-requires
 bucket-requires c κs = front c .0 .inside
 
-seek-front-requires : tie.Need-seek-front-requires
-seek-front-requires c κs = rw (c .bucket .ensures .0) (front (c .before) .0 .sound, start (read (c .before)) .pre .key)
+find-front-requires : tie.Need-find-front-requires
+find-front-requires c κs = rw (c .bucket .ensures .0) (front (c .before) .0 .sound, start (read (c .before)) .pre .key)
 
 plan-other-requires : tie.Need-plan-other-requires
 plan-other-requires c κs =
@@ -108,7 +108,7 @@ plan-spec =
     (λ c. search needs)
     returns
     bucket-requires
-    seek-front-requires
+    find-front-requires
     (λ c. search needs)
     (λ c. search needs)
     plan-other-requires

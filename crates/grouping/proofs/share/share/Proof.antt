@@ -11,11 +11,11 @@ use Rattle.grouping.proofs.share.share.Statement.{statement}
 use Rattle.grouping.proofs.share.share.Tie as tie
 
 -- the start, where the front bucket was read
-abbrev start : tie.After-sound-front-at → tie.Start
+abbrev start : tie.After-read-front-at → tie.Start
 start c = c .before .before .before
 
-sound-front-at-requires : tie.Need-sound-front-at-requires
-sound-front-at-requires c κs = front-in (c .before .before .pre .0)
+read-front-at-requires : tie.Need-read-front-at-requires
+read-front-at-requires c κs = let p = c .before .before .pre in (front-in (p .0), p .1)
 
 returns : tie.Need-returns
 returns c =
@@ -25,14 +25,14 @@ returns c =
     let f = a .front .0 in
     bars layout1 (a .size) f (a .key) (a .image .now) (a .reads)
     (ask-unsound layout1 (a .size) f (a .key) (a .image .now)
-    (front-unsound layout1 f 0 (a .image .now) (k .sound-front-at .ensures) (c .enum-told2 .given .1)))
+    (front-unsound layout1 f (a .key) (a .image .now) (k .read-front-at .ensures) (c .enum-told2 .given .1)))
 
 share-front-requires : tie.Need-share-front-requires
 share-front-requires c κs =
     let k = c .before .before in
     let s = start k in
     let a = s .args in
-    let told = front-told layout1 (a .front .0) 0 (a .image .now) (k .sound-front-at .ensures) (c .enum-told .given .1) in
+    let told = front-told layout1 (a .front .0) (a .key) (a .image .now) (k .read-front-at .ensures) (c .enum-told .given .1) in
     (s .pre .0, s .pre .1, front-group (told .0), omega arith)
 
 returns-2 : tie.Need-returns-2
@@ -46,7 +46,7 @@ pub share-spec : {M : Type 1} → statement M
 share-spec =
     tie.close
     (tie.spec
-    sound-front-at-requires
+    read-front-at-requires
     (λ c. search needs)
     (λ c. search needs)
     returns

@@ -18,10 +18,10 @@ use Rattle.lookup.proofs.ask.ask_at.Tie as tie
 abbrev absent : tie.After-largest-front → tie.After-enum-told2
 absent c = c .before .before
 
-abbrev sought : tie.After-enum-told2 → tie.After-seek-front
+abbrev sought : tie.After-enum-told2 → tie.After-find-front
 sought c = c .before .before
 
-abbrev lent : tie.After-seek-front → tie.After-bucket
+abbrev lent : tie.After-find-front → tie.After-bucket
 lent c = c .before
 
 abbrev sound : tie.After-bucket → tie.After-known-told
@@ -47,9 +47,9 @@ front c =
     holds layout1 (a .target .front .0) (a .image .now) (read c .sound-front-at .ensures) (c .before .n .given .1)
 
 -- what was found there: the key, and the largest
-key : (c : tie.After-seek-front) → let a = start (read (sound (lent c))) .args in
-    c .seek-front .result ≡ searchOf (foundIn (a .target .key) (inFront layout1 (a .target .front .0) (a .image .now)))
-key c = key-found (front (sound (lent c))) (lent c .bucket .ensures .0) (start (read (sound (lent c))) .args .target .key) (c .seek-front .ensures)
+key : (c : tie.After-find-front) → let a = start (read (sound (lent c))) .args in
+    c .find-front .result ≡ searchOf (foundIn (a .target .key) (inFront layout1 (a .target .front .0) (a .image .now)))
+key c = key-found (front (sound (lent c))) (lent c .bucket .ensures .0) (start (read (sound (lent c))) .args .target .key) (c .find-front .ensures)
 
 top : (c : tie.After-largest-front) → let a = start (read (sound (lent (sought (absent c))))) .args in
     c .largest-front .result ≡ largest (inFront layout1 (a .target .front .0) (a .image .now))
@@ -69,8 +69,8 @@ returns c =
 bucket-requires : tie.Need-bucket-requires
 bucket-requires c κs = front c .read .inside
 
-seek-front-requires : tie.Need-seek-front-requires
-seek-front-requires c κs = key-sought (front (sound c)) (c .bucket .ensures .0) (start (read (sound c)) .pre .key)
+find-front-requires : tie.Need-find-front-requires
+find-front-requires c κs = key-sought (front (sound c)) (c .bucket .ensures .0) (start (read (sound c)) .pre .key)
 
 returns-2 : tie.Need-returns-2
 returns-2 c =
@@ -111,7 +111,7 @@ ask-at-spec =
     (λ c. search needs)
     returns
     bucket-requires
-    seek-front-requires
+    find-front-requires
     (λ c. search needs)
     (λ c. search needs)
     (λ c κs. search needs)

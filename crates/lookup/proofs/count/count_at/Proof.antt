@@ -50,7 +50,7 @@ here c =
     let a = start (read (sound b)) .args in
     let h = front (sound b) in
     search-many (a .target .key) (inFront layout1 (a .target .front .0) (a .image .now)) (h .read .list .order)
-    (key-found h (b .bucket .ensures .0) (a .target .key) (c .before .seek-front .ensures)) (c .copies-of .ensures)
+    (key-found h (b .bucket .ensures .0) (a .target .key) (c .before .find-front .ensures)) (c .copies-of .ensures)
 
 top : (c : tie.After-largest-front) → let a = start (read (sound (lent (counted c)))) .args in
     c .largest-front .result ≡ largest (inFront layout1 (a .target .front .0) (a .image .now))
@@ -70,8 +70,8 @@ returns c =
 bucket-requires : tie.Need-bucket-requires
 bucket-requires c κs = front c .read .inside
 
-seek-front-requires : tie.Need-seek-front-requires
-seek-front-requires c κs = key-sought (front (sound c)) (c .bucket .ensures .0) (start (read (sound c)) .pre .key)
+find-front-requires : tie.Need-find-front-requires
+find-front-requires c κs = key-sought (front (sound c)) (c .bucket .ensures .0) (start (read (sound c)) .pre .key)
 
 returns-2 : tie.Need-returns-2
 returns-2 c = let n = c .before in let k = sound (lent n) in count-few (size k) (sought-key k) (front k) (here n) (omega arith)
@@ -104,7 +104,7 @@ count-at-spec =
     (λ c. search needs)
     returns
     bucket-requires
-    seek-front-requires
+    find-front-requires
     (λ c κs. search needs)
     returns-2
     largest-front-requires

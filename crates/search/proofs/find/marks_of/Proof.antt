@@ -16,22 +16,22 @@ use Rattle.search.proofs.find.marks_of.Tie as tie
 
 -- the slots passed are marked
 abbrev Inv-loop : tie.InvT-loop
-Inv-loop b tag marks₀ mark₀ slot₀ marks mark slot =
-    (slot ≤ layout1 .frontSlots) × (mark ≡ 2 ^ suc slot) × (marks ≡ 2 * marksOf (tagAt layout1 false b) tag 0 slot)
+Inv-loop b slots tag marks₀ mark₀ slot₀ marks mark slot =
+    (slot ≤ slots) × (mark ≡ 2 ^ suc slot) × (marks ≡ 2 * marksOf (tagAt layout1 false b) tag 0 slot)
 
 abbrev μ-loop : tie.MeasureT-loop
-μ-loop b tag marks₀ mark₀ slot₀ marks mark slot = layout1 .frontSlots - slot
+μ-loop b slots tag marks₀ mark₀ slot₀ marks mark slot = slots - slot
 
 loop-holds : tie.Need-loop-holds Inv-loop μ-loop
 unfolding marksOf
 loop-holds c = (omega arith, omega arith, refl)
 
 tag-of-requires : tie.Need-tag-of-requires Inv-loop μ-loop
-tag-of-requires c κs = (c .before .before .before .pre, c .loop-test .taken)
+tag-of-requires c κs = let p = c .before .before .before .pre in (p .0, omega (arith, p .1, c .loop-test .taken))
 
 -- a mark is small
 mark-lt : (c : tie.In-loop Inv-loop μ-loop) → 2 ^ suc (c .before .loop .slot) ≤ 2 ^ suc (layout1 .frontSlots)
-mark-lt c = pow-mono {i = suc (c .before .loop .slot)} {j = suc (layout1 .frontSlots)} (omega (arith, c .before .loop .inv .0))
+mark-lt c = pow-mono {i = suc (c .before .loop .slot)} {j = suc (layout1 .frontSlots)} (omega (arith, c .before .loop .inv .0, c .before .before .before .pre .1))
 
 mul-mark : tie.Need-mul-mark Inv-loop μ-loop
 mul-mark c = let l = c .before .before in omega (arith, l .before .loop .inv .1, mark-lt l)
@@ -55,7 +55,7 @@ loop-again c =
 returns : tie.Need-returns Inv-loop μ-loop
 returns c =
     let l = c .before .loop in
-    let e : l .slot ≡ layout1 .frontSlots = omega (arith, l .inv .0, c .loop-test .left) in
+    let e : l .slot ≡ c .before .before .before .args .slots = omega (arith, l .inv .0, c .loop-test .left) in
     rw e at (l .inv .2)
 
 pub marks-of-spec : {M : Type 1} → statement M

@@ -1,101 +1,96 @@
--- `search::list::count_carrying` meets its contract. The loop's invariant: `n` of the slots passed carry the crumb. The measure is the slots that are left.
-use mathlib.Core.Path.{_≡_, refl, sym, _∙_}
-use mathlib.Core.Logic.{⊎-elim}
-use Prim.Native.Nat.{_%_, _-_, _≤_, _<_}
+-- `search::list::count_carrying` meets its contract: the crumbs of the slots in use are halves of two numbers (`halves-counted`).
+use mathlib.Core.Path.{_≡_, _∙_}
+use Prim.Native.Nat.{_+_}
 use mathlib.Core.Bool.{true}
-use native.Mathlib.Numerals.{add-one}
 use native.Mathlib.Omega.{arith}
-use lib.ListN.{length, take, getD}
-use lib.Seq.{take-all}
+use lib.ListN.{length}
+use borrow.Author.Needs.{needs}
 use Rattle.crumbmap.specs.Layouts.{layout1}
 use Rattle.buckets.specs.Buckets.{carrying, backList}
-use Rattle.multiset.proofs.MultisetLaws.{hit-equal, hit-other}
 use Rattle.buckets.proofs.BucketLaws.{fits1}
 use Rattle.buckets.proofs.ElementLaws.{below-bytes}
-use Rattle.buckets.proofs.CarryLaws.{carrying-on}
+use Rattle.buckets.proofs.CarryLaws.{length-carrying}
 use Rattle.minifilter.proofs.HeldLaws.{Held, held, held-crumb, held-many1, held-count1}
+use Rattle.search.proofs.HalfLaws.{far-few, halves-counted}
 use Rattle.search.proofs.list.count_carrying.Statement.{statement}
 use Rattle.search.proofs.list.count_carrying.Tie as tie
 
-abbrev Inv-loop : tie.InvT-loop
-Inv-loop b crumb members slot₀ n₀ slot n = (slot ≤ members) × (n ≤ slot) × (n ≡ length (carrying crumb (take slot (backList layout1 b))))
+-- the points of the walk: both numbers are read; the slots of the first are told; the word is read; the start
+abbrev split : tie.After-word-of3 → tie.After-near-of
+split c = c .before .before .before .before
 
-abbrev μ-loop : tie.MeasureT-loop
-μ-loop b crumb members slot₀ n₀ slot n = members - slot
+abbrev read : tie.After-near-of → tie.After-word-of
+read c = c .before .before
 
--- the loop's point of the walk before a turn and before its end, and what the walk began with
-abbrev start : tie.At-loop Inv-loop μ-loop → tie.Start Inv-loop μ-loop
-start l = l .before .before .before .before
+abbrev start : tie.After-word-of → tie.Start
+start c = c .before .before
 
 -- the bucket that was read
-known : (c : tie.After-word-of Inv-loop μ-loop) → let b = c .before .before .args .b .now in Held layout1 true b (backList layout1 b)
+known : (c : tie.After-word-of) → let b = start c .args .b .now in Held layout1 true b (backList layout1 b)
 known c =
-    let b = c .before .before .args .b .now in
-    held layout1 fits1 true b (below-bytes b (c .before .shared-slice-known .given)) (c .before .before .pre .0)
+    let b = start c .args .b .now in
+    held layout1 fits1 true b (below-bytes b (c .before .shared-slice-known .given)) (start c .pre .0)
 
-members-are : (l : tie.At-loop Inv-loop μ-loop) → l .before .occupancy .result ≡ length (backList layout1 (start l .args .b .now))
-members-are l =
-    let read = l .before .before in
-    let b = start l .args .b .now in
-    l .before .occupancy .ensures .0 ∙ held-count1 b (backList layout1 b) (read .word-of .result) (read .word-of .ensures) true (known read)
+many : (c : tie.After-near-of) → c .before .occupancy .result ≡ length (backList layout1 (start (read c) .args .b .now))
+many c =
+    let r = read c in
+    let b = start r .args .b .now in
+    c .before .occupancy .ensures .0 ∙ held-count1 b (backList layout1 b) (r .word-of .result) (r .word-of .ensures) true (known r)
 
-word-of-requires : tie.Need-word-of-requires Inv-loop μ-loop
-word-of-requires c κs = omega (arith, c .before .pre .0 .long)
+-- those of both numbers
+counted : (c : tie.After-copies-in2) → let a = start (read (split (c .before .before))) .args in
+    c .before .copies-in .result + c .copies-in2 .result ≡ length (carrying (a .crumb) (backList layout1 (a .b .now)))
+counted c =
+    let k = c .before .before in
+    let n = split k in
+    let r = read n in
+    let s = start r in
+    let b = s .args .b .now in
+    let ys = backList layout1 b in
+    let e = n .near-of .ensures in
+    halves-counted (s .args .crumb) (n .near-of .result) (n .before .occupancy .result) 52 b ys (below-bytes b (r .before .shared-slice-known .given))
+    (omega (arith, s .pre .0 .long)) (many n) (omega (arith, many n, known r .room)) (e .0) (e .1) (e .2) (e .3)
+    (λ i l. held-crumb layout1 b ys (known r) i l) (k .before .before .word-of2 .ensures) (k .word-of3 .ensures) (c .before .copies-in .ensures)
+    (c .copies-in2 .ensures)
 
-occupancy-requires : tie.Need-occupancy-requires Inv-loop μ-loop
+occupancy-requires : tie.Need-occupancy-requires
 occupancy-requires c κs =
-    let b = c .before .before .args .b .now in
+    let b = start c .args .b .now in
     held-many1 b (backList layout1 b) (c .word-of .result) (c .word-of .ensures) true (known c)
 
-loop-holds : tie.Need-loop-holds Inv-loop μ-loop
-unfolding carrying
-loop-holds c = (omega arith, omega arith, refl)
+copies-in-requires-2 : tie.Need-copies-in-requires-2
+copies-in-requires-2 c κs =
+    let n = split (c .before) in (
+      start (read n) .pre .1,
+      far-few (n .before .occupancy .result) (n .near-of .result) (omega (arith, many n, known (read n) .room)) (n .near-of .ensures .3),
+    )
 
-crumb-of-requires : tie.Need-crumb-of-requires Inv-loop μ-loop
-crumb-of-requires c κs =
-    let l = c .before in
-    (start l .pre .0 .long, omega (arith, members-are l, known (l .before .before) .room))
+add-result : tie.Need-add-result
+add-result c =
+    let r = read (split (c .before .before)) in
+    let a = start r .args in
+    omega (arith, counted c, length-carrying (a .crumb) (backList layout1 (a .b .now)), known r .room)
 
-add-n : tie.Need-add-n Inv-loop μ-loop
-add-n c = let l = c .before .before .before in omega (arith, l .before .occupancy .ensures .1)
-
-add-slot : tie.Need-add-slot Inv-loop μ-loop
-add-slot c = let l = c .before .before .before in omega (arith, l .before .occupancy .ensures .1)
-
-loop-again : tie.Need-loop-again Inv-loop μ-loop
-loop-again c =
-    let l = c .before .before .before in
-    let i = l .loop in
-    let a = start l .args in
-    let ys = backList layout1 (a .b .now) in
-    let within : i .slot < length ys = omega (arith, members-are l) in
-    let on = rw (← add-one (i .slot)) at (carrying-on (a .crumb) (i .slot) ys within) in
-    let e = held-crumb layout1 (a .b .now) ys (known (l .before .before)) (i .slot) within in
-    let here = c .before .crumb-of .ensures .0 in
-    let x = getD ys (i .slot) 0 % 16 in
-    ⊎-elim
-    (λ w. rw (w .1) (omega arith, omega arith, omega (arith, on, i .inv .2, hit-equal x (a .crumb) (sym e ∙ sym here ∙ w .0 .taken))))
-    (λ w. rw (w .1) (omega arith, omega arith, omega (arith, on, i .inv .2, hit-other x (a .crumb) (λ q. w .0 .left (here ∙ e ∙ q)))))
-    (c .if1 .came)
-
-returns : tie.Need-returns Inv-loop μ-loop
-returns c =
-    let l = c .before in
-    let ys = backList layout1 (start l .args .b .now) in
-    rw (take-all (l .loop .slot) ys (omega (arith, members-are l))) at (l .loop .inv .2)
+returns : tie.Need-returns
+returns c = counted c
 
 pub count-carrying-spec : {M : Type 1} → statement M
 count-carrying-spec =
     tie.close
     (tie.spec
-    Inv-loop
-    μ-loop
-    word-of-requires
+    (λ c κs. search needs)
     occupancy-requires
-    loop-holds
-    crumb-of-requires
-    add-n
-    add-slot
-    (λ c. omega arith)
-    loop-again
+    (λ c κs. search needs)
+    (λ c. search needs)
+    (λ c. search needs)
+    (λ c. search needs)
+    (λ c κs. search needs)
+    (λ c. search needs)
+    (λ c. search needs)
+    (λ c. search needs)
+    (λ c κs. search needs)
+    (λ c κs. search needs)
+    (λ c. search needs)
+    copies-in-requires-2
+    add-result
     returns)
