@@ -21,7 +21,13 @@ impl Setting {
         (28 * self.shape().fronts() * self.load / 100) as usize
     }
 
-    /// How many freshes are timed in a row: one is short on a small image.
+    /// How many images, each with members of its own, are taken in turn: small ones are too soon
+    /// done with, and a call made again on the same one is foreseen by the processor.
+    pub fn images(self) -> usize {
+        (1024 / self.buckets()).max(1)
+    }
+
+    /// How many freshes of an image are timed in a row: one is short.
     pub fn freshes(self) -> usize {
         if self.b > 4096 {
             1
@@ -62,7 +68,9 @@ pub fn sources(members: &[u64]) -> (&[u64], &[u64]) {
     (&members[..n], &members[n..2 * n])
 }
 
-/// The inputs of one round, the same for every subject.
+/// The inputs of one round, the same for every subject: for each image as many, one image after the
+/// other.
+#[derive(Default)]
 pub struct Batch {
     pub hits: Vec<u64>,
     pub misses: Vec<u64>,
@@ -93,21 +101,26 @@ fn new_hashes(image: &mut [u8], how_many: usize, random: &mut Random) -> Vec<u64
     new
 }
 
-pub fn batch(members: &[u64], image: &mut [u8], size: usize, random: &mut Random) -> Batch {
+/// Adds the inputs for one more image with these members, so many hashes.
+fn add(batch: &mut Batch, image: &mut [u8], members: &[u64], size: usize, random: &mut Random) {
     let n = members.len();
-    let new = new_hashes(image, (n / 50).clamp(8, size), random);
+    let new = new_hashes(image, (n / 50).clamp(4, size), random);
     let mut new_shuffled = new.clone();
     shuffle(&mut new_shuffled, random);
-    let mut any = || (0..size).map(|_| random.bits()).collect();
-    let (misses, warm) = (any(), any());
-    let hits = (0..size)
-        .map(|_| members[random.below(n as u64) as usize])
-        .collect();
-    Batch {
-        hits,
-        misses,
-        warm,
-        new,
-        new_shuffled,
+    batch.new.extend(new);
+    batch.new_shuffled.extend(new_shuffled);
+    batch.misses.extend((0..size).map(|_| random.bits()));
+    batch.warm.extend((0..size).map(|_| random.bits()));
+    let hits = (0..size).map(|_| members[random.below(n as u64) as usize]);
+    batch.hits.extend(hits);
+}
+
+/// About so many hashes for all images with their members.
+pub fn batch(images: &mut [(Vec<u8>, Vec<u64>)], size: usize, random: &mut Random) -> Batch {
+    let mut batch = Batch::default();
+    let each = size.div_ceil(images.len());
+    for (image, members) in images {
+        add(&mut batch, image, members, each, random);
     }
+    batch
 }

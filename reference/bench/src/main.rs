@@ -1,11 +1,14 @@
 //! Times of the calls: a table in Markdown and a plot in SVG.
 //!
 //!     bench FOLDER [quick]
+//!     bench median FILE FILE FILE
+//!     bench setting B LOAD [quick]
 //!     bench rows [quick]
 //!     bench occupancy [quick]
 //!     bench calls B LOAD FOLDER
 //!
-//! The first writes FOLDER/bench.md and FOLDER/bench.svg; `quick` takes fewer rounds. The next two
+//! The first writes FOLDER/bench.md and FOLDER/bench.svg; `quick` takes fewer rounds. The second
+//! prints the median ratios of several bench.md, the third the table of one setting. The next two
 //! print the table of rows or of occupancy pages alone, which are there with the feature `rows`.
 //! The last is for `compare`: it names its calls, with the feature `rows` those of rows too, and
 //! times the one whose number comes on standard input, again and again; its buffers are files of
@@ -14,6 +17,7 @@
 mod inputs;
 mod lines;
 mod measure;
+mod medians;
 #[cfg(feature = "rows")]
 mod occupancy;
 mod plot;
@@ -25,6 +29,7 @@ mod turns;
 
 use inputs::Setting;
 use measure::{Effort, Rounds, Times, Who, CALLS, ON_HASHES};
+use medians::RATIOS;
 use plot::{Panel, Series};
 use std::collections::BTreeMap;
 use std::fs::File;
@@ -71,7 +76,7 @@ fn ns(value: Option<f64>) -> String {
 
 fn ratio(over: Option<f64>, under: Option<f64>) -> String {
     match (over, under) {
-        (Some(over), Some(under)) => format!("{:.2}", over / under),
+        (Some(over), Some(under)) => format!("{:.3}", over / under),
         _ => String::new(),
     }
 }
@@ -85,10 +90,17 @@ fn head(cells: &[String]) -> String {
     row(cells) + &format!("|{}\n", "---|".repeat(cells.len()))
 }
 
-/// One table: a row a call, a column an implementation, and the ratio of capi to fast.
+/// The two whose times a ratio compares, where both are measured.
+fn compared<'a>(all: &'a [Times], ratio: &str) -> Option<[&'a Times; 2]> {
+    let (over, under) = ratio.split_once(" / ")?;
+    let of = |name| all.iter().find(|times| times.name == name);
+    Some([of(over)?, of(under)?])
+}
+
+/// One table: a row a call, a column an implementation, and the ratios of capi to the others.
 fn table(setting: Setting, all: &[Times]) -> String {
-    let fast = all.iter().find(|times| times.name == "fast");
-    let capi = all.iter().find(|times| times.name == "capi");
+    let ratios = RATIOS.map(|name| Some((name, compared(all, name)?)));
+    let ratios: Vec<_> = ratios.into_iter().flatten().collect();
     let mut text = format!(
         "\n## B = {}, load {} % ({} members)\n\n",
         setting.b,
@@ -97,16 +109,13 @@ fn table(setting: Setting, all: &[Times]) -> String {
     );
     let mut names = vec!["call".to_string(), "ns a".to_string()];
     names.extend(all.iter().map(|times| times.name.to_string()));
-    if capi.is_some() {
-        names.push("capi / fast".to_string());
-    }
+    names.extend(ratios.iter().map(|(name, _)| name.to_string()));
     text += &head(&names);
     for (call, (name, unit)) in CALLS.iter().enumerate() {
         let mut cells = vec![name.to_string(), unit.to_string()];
         cells.extend(all.iter().map(|times| ns(times.ns[call])));
-        if let (Some(capi), Some(fast)) = (capi, fast) {
-            cells.push(ratio(capi.ns[call], fast.ns[call]));
-        }
+        let cell = |[over, under]: [&Times; 2]| ratio(over.ns[call], under.ns[call]);
+        cells.extend(ratios.iter().map(|&(_, compared)| cell(compared)));
         text += &row(&cells);
     }
     let mut cells = vec!["bytes a member".to_string(), String::new()];
@@ -114,9 +123,7 @@ fn table(setting: Setting, all: &[Times]) -> String {
         all.iter()
             .map(|times| format!("{:.1}", times.bytes_a_member)),
     );
-    if capi.is_some() {
-        cells.push(String::new());
-    }
+    cells.resize(cells.len() + ratios.len(), String::new());
     text + &row(&cells)
 }
 
@@ -130,17 +137,30 @@ much.
 
 Load is the members' share of the 28 × F front slots; 90 % are 82 % of all slots. The hashes are \
 random. `insert` and `delete` take a fiftieth of the members as new ones, in and out \
-again, and the image is then copied anew from the start. `merge` has 45 % of the \
+again, and the image is then copied anew from the start. For B = 1 and 8 there are 64 and 12 \
+images, each with members of its own, and a batch takes them in turn. `merge` has 45 % of the \
 members in each source, and includes both checks. `page` lists the whole image in one call. \
 `attach` and `detach` move all members from an old image and to one, and include the check; \
 `tail` tells the total and the change count. \
 `fast` is unverified Rust with the same reading rule: every bucket is read whole before it is \
-trusted. `HashMap` is Rust's `HashMap<u64, u32>` as a counting multiset, with the hashes as keys \
-that are not hashed again; its `page` collects and sorts.
+trusted. `quick` is `fast` with the library's ideas for a bucket. `HashMap` is Rust's \
+`HashMap<u64, u32>` as a counting multiset, with the hashes as keys that are not hashed again; its \
+`page` collects and sorts.
 ";
 
-/// The settings of the tables: B and load.
-const SETTINGS: [(u64, u64); 4] = [(113, 50), (113, 90), (65536, 50), (65536, 90)];
+/// The settings of the tables: every B at every load.
+const SIZES: [u64; 6] = [1, 8, 113, 1024, 8192, 65536];
+const LOADS: [u64; 2] = [50, 90];
+
+/// The sizes of the tables of two ways; a row needs more front buckets than B = 1 has.
+#[cfg(feature = "rows")]
+const SIZES_OF_WAYS: [u64; 2] = [113, 65536];
+
+fn settings(sizes: &[u64]) -> impl Iterator<Item = Setting> + '_ {
+    sizes
+        .iter()
+        .flat_map(|&b| LOADS.map(|load| Setting { b, load }))
+}
 
 /// A table of two ways under a title, with the rows of each setting.
 #[cfg(feature = "rows")]
@@ -156,9 +176,10 @@ fn ways_table(
         .map(|name| name.to_string())
         .collect();
     let mut text = format!("\n## {title}\n\n{notes}\n{}", head(&columns));
-    for (b, load) in SETTINGS {
+    for setting in settings(&SIZES_OF_WAYS) {
+        let Setting { b, load } = setting;
         eprintln!("{title}, B = {b}, load {load} %");
-        for cells in cells(Setting { b, load }) {
+        for cells in cells(setting) {
             text += &row(&[vec![b.to_string(), format!("{load} %")], cells].concat());
         }
     }
@@ -305,9 +326,9 @@ fn calls(setting: Setting, folder: &str) {
 fn tables(results: &mut Results) -> String {
     let quick = results.quick;
     let mut text = format!("# Times of the calls\n\n{NOTES}");
-    for (b, load) in SETTINGS {
-        let times = results.of(b, load, CALLS.len());
-        text += &table(Setting { b, load }, times);
+    for setting in settings(&SIZES) {
+        let times = results.of(setting.b, setting.load, CALLS.len());
+        text += &table(setting, times);
     }
     text += &rows_table(quick).unwrap_or_default();
     text + &occupancy_table(quick).unwrap_or_default()
@@ -317,8 +338,7 @@ fn tables(results: &mut Results) -> String {
 fn plot(results: &mut Results) -> String {
     let loads = [10, 20, 30, 40, 50, 60, 70, 80, 90, 95];
     let over_load: Vec<_> = loads.map(|load| (load, 113, load)).to_vec();
-    let sizes = [8, 32, 113, 512, 2048, 8192, 65536];
-    let over_size: Vec<_> = sizes.map(|b| (b, b, 90)).to_vec();
+    let over_size: Vec<_> = SIZES.map(|b| (b, b, 90)).to_vec();
     let left = panels(
         results,
         &over_load,
@@ -331,7 +351,7 @@ fn plot(results: &mut Results) -> String {
         &over_size,
         "B, load 90 %",
         true,
-        &[8.0, 113.0, 512.0, 4096.0, 65536.0],
+        &SIZES.map(|b| b as f64),
     );
     let both: Vec<Panel> = left
         .into_iter()
@@ -341,36 +361,59 @@ fn plot(results: &mut Results) -> String {
     plot::svg("ns a call over load and over B", &both, 2)
 }
 
+fn usage() -> ! {
+    eprintln!("usage: bench FOLDER [quick] | rows [quick] | occupancy [quick]");
+    eprintln!("       bench median FILE FILE FILE");
+    eprintln!("       bench setting B LOAD [quick]");
+    eprintln!("       bench calls B LOAD FOLDER");
+    std::process::exit(2);
+}
+
+/// The reports of several runs, as `bench` wrote them.
+fn medians_of(files: &[&str]) -> String {
+    let read = |file: &&str| std::fs::read_to_string(file).expect("a bench.md");
+    medians::tables(&files.iter().map(read).collect::<Vec<_>>())
+}
+
+/// Every table and the plot, into a folder.
+fn report(results: &mut Results, folder: &str) -> String {
+    let report = tables(results);
+    let svg = plot(results);
+    std::fs::create_dir_all(folder).expect("the folder");
+    std::fs::write(format!("{folder}/bench.md"), &report).expect("bench.md");
+    std::fs::write(format!("{folder}/bench.svg"), svg).expect("bench.svg");
+    report
+}
+
 fn main() {
     let arguments: Vec<String> = std::env::args().skip(1).collect();
-    if let [word, b, load, folder] = &arguments[..] {
-        if let ("calls", Ok(b), Ok(load)) = (word.as_str(), b.parse(), load.parse()) {
-            return calls(Setting { b, load }, folder);
-        }
+    let mut words: Vec<&str> = arguments.iter().map(String::as_str).collect();
+    let quick = words.last() == Some(&"quick");
+    if quick {
+        words.pop();
     }
-    let Some(folder) = arguments.first() else {
-        eprintln!("usage: bench FOLDER [quick] | rows [quick] | occupancy [quick]");
-        eprintln!("       bench calls B LOAD FOLDER");
-        std::process::exit(2);
+    let number = |at: usize| words[at].parse().unwrap_or_else(|_| usage());
+    let setting = || Setting {
+        b: number(1),
+        load: number(2),
     };
-    let quick = arguments.get(1).is_some_and(|word| word == "quick");
-    let alone = match folder.as_str() {
-        "rows" => Some(rows_table(quick)),
-        "occupancy" => Some(occupancy_table(quick)),
-        _ => None,
-    };
-    if let Some(table) = alone {
-        return print!("{}", table.expect("a build with the feature `rows`"));
-    }
     let mut results = Results {
         quick,
         ..Results::default()
     };
-
-    let report = tables(&mut results);
-    let svg = plot(&mut results);
-    std::fs::create_dir_all(folder).expect("the folder");
-    std::fs::write(format!("{folder}/bench.md"), &report).expect("bench.md");
-    std::fs::write(format!("{folder}/bench.svg"), svg).expect("bench.svg");
-    print!("{report}");
+    const WITH_ROWS: &str = "a build with the feature `rows`";
+    let text = match &words[..] {
+        ["calls", _, _, folder] => return calls(setting(), folder),
+        ["setting", _, _] => {
+            let Setting { b, load } = setting();
+            table(setting(), results.of(b, load, CALLS.len()))
+        }
+        ["median", files @ ..] if !files.is_empty() => medians_of(files),
+        ["rows"] => rows_table(quick).expect(WITH_ROWS),
+        ["occupancy"] => occupancy_table(quick).expect(WITH_ROWS),
+        ["median" | "setting" | "calls"] => usage(),
+        [folder] => report(&mut results, folder),
+        _ => usage(),
+    };
+    print!("{text}");
 }

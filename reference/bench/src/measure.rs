@@ -2,7 +2,7 @@
 
 use crate::inputs::{batch, filled, sources, Batch, Setting};
 use crate::subject::{Filter, Map, Subject};
-use differential::Fast;
+use differential::{Fast, Quick};
 use model::random::Random;
 use std::fs::File;
 use std::hint::black_box;
@@ -51,11 +51,15 @@ pub enum Who {
     First(Vec<File>),
 }
 
-fn subjects(setting: Setting, who: &Who, members: &[u64], start: &[u8]) -> Vec<Box<dyn Subject>> {
-    let n = members.len();
-    let half = |members: &[u64]| filled(setting, members.iter().copied(), n).0;
-    let (first, second) = sources(members);
-    let halves = [half(first), half(second)];
+fn subjects(setting: Setting, who: &Who, images: &[(Vec<u8>, Vec<u64>)]) -> Vec<Box<dyn Subject>> {
+    let half = |members: &[u64]| filled(setting, members.iter().copied(), members.len()).0;
+    let mut start: [Vec<u8>; 3] = Default::default();
+    for (image, members) in images {
+        let (first, second) = sources(members);
+        start[0].extend(image);
+        start[1].extend(half(first));
+        start[2].extend(half(second));
+    }
     let (all, files): (bool, &[File]) = match who {
         Who::All => (true, &[]),
         Who::First(files) => (false, files),
@@ -65,16 +69,18 @@ fn subjects(setting: Setting, who: &Who, members: &[u64], start: &[u8]) -> Vec<B
     subjects.push(Box::new(Filter::new(
         "capi",
         differential::Capi,
-        start,
-        &halves,
-        n,
+        setting,
+        &start,
         files,
     )));
     if all || subjects.is_empty() {
-        let fast = Filter::new("fast", Fast, start, &halves, n, files);
+        let fast = Filter::new("fast", Fast, setting, &start, files);
         subjects.push(Box::new(fast));
     }
     if all {
+        let quick = Filter::new("quick", Quick, setting, &start, files);
+        subjects.push(Box::new(quick));
+        let members = images.iter().map(|(_, members)| &members[..]);
         subjects.push(Box::new(Map::new(members)));
     }
     subjects
@@ -163,8 +169,8 @@ pub fn median(mut values: Vec<f64>) -> Option<f64> {
 pub struct Rounds {
     setting: Setting,
     random: Random,
-    members: Vec<u64>,
-    room: Vec<u8>,
+    /// The images with their members.
+    images: Vec<(Vec<u8>, Vec<u64>)>,
     subjects: Vec<Box<dyn Subject>>,
     clock: fn() -> f64,
     done: usize,
@@ -173,14 +179,16 @@ pub struct Rounds {
 impl Rounds {
     pub fn new(setting: Setting, who: Who) -> Rounds {
         let mut random = Random::new(setting.b * 1000 + setting.load);
-        let any = std::iter::repeat_with(|| random.bits());
-        let (start, members) = filled(setting, any, setting.members());
-        let subjects = subjects(setting, &who, &members, &start);
+        let mut image = |_| {
+            let any = std::iter::repeat_with(|| random.bits());
+            filled(setting, any, setting.members())
+        };
+        let images: Vec<_> = (0..setting.images()).map(&mut image).collect();
+        let subjects = subjects(setting, &who, &images);
         Rounds {
             setting,
             random,
-            members,
-            room: start,
+            images,
             subjects,
             clock: match who {
                 Who::All => wall_time,
@@ -190,15 +198,16 @@ impl Rounds {
         }
     }
 
-    /// The image at the start, before any round, and its members.
+    /// The first image at the start, before any round, and its members.
     pub fn start(&self) -> (&[u8], &[u64]) {
-        (&self.room, &self.members)
+        let (image, members) = &self.images[0];
+        (image, members)
     }
 
     /// A round of the first so many of `CALLS`, on hashes of its own. Takes by subject, call and ns
     /// a unit.
     pub fn round(&mut self, calls: usize, size: usize, mut take: impl FnMut(usize, usize, f64)) {
-        let batch = batch(&self.members, &mut self.room, size, &mut self.random);
+        let batch = batch(&mut self.images, size, &mut self.random);
         for call in 0..calls {
             self.call(call, &batch, |who, ns| take(who, call, ns));
         }
@@ -208,7 +217,7 @@ impl Rounds {
     /// One call by the first subject, on hashes of its own and on buffers that another process may
     /// have written: ns a unit.
     pub fn alone(&mut self, call: usize, size: usize) -> Option<f64> {
-        let batch = batch(&self.members, &mut self.room, size, &mut self.random);
+        let batch = batch(&mut self.images, size, &mut self.random);
         self.subjects[0].restore_all();
         let mut taken = None;
         self.call(call, &batch, |_, ns| taken = Some(ns));
@@ -218,14 +227,15 @@ impl Rounds {
     /// A call by every subject in turn; the turn starts with another subject each round.
     fn call(&mut self, call: usize, batch: &Batch, mut take: impl FnMut(usize, f64)) {
         let mut agreed = None;
-        let freshes = self.setting.freshes();
+        let (images, buckets) = (self.images.len(), self.setting.buckets());
+        let freshes = self.setting.freshes() * images;
         let units = match call {
             0..=2 => batch.hits.len(),
             3 | 4 => batch.new.len(),
-            5 => self.members.len(),
-            6 => 2 * sources(&self.members).0.len(),
-            7 | 9 | 10 => self.setting.buckets(),
-            8 => freshes * self.setting.buckets(),
+            5 => images * self.setting.members(),
+            6 => images * 2 * sources(self.start().1).0.len(),
+            7 | 9 | 10 => images * buckets,
+            8 => freshes * buckets,
             _ => batch.hits.len(),
         };
         for turn in 0..self.subjects.len() {
@@ -256,7 +266,7 @@ pub fn run(setting: Setting, calls: usize, effort: Effort) -> Vec<Times> {
             }
         });
     }
-    let members = rounds.members.len() as f64;
+    let members = (setting.images() * setting.members()) as f64;
     let mut all = Vec::new();
     for (subject, samples) in rounds.subjects.iter().zip(samples) {
         let mut ns = [None; CALLS.len()];

@@ -1,6 +1,6 @@
 //! What is timed: the implementations of the catalogue, and a hash map as a counting multiset.
 
-use crate::inputs::sources;
+use crate::inputs::{sources, Setting};
 use crate::lines::Lines;
 use model::catalogue::Catalogue;
 use model::shape::TAIL;
@@ -10,8 +10,9 @@ use std::fs::File;
 use std::hash::{BuildHasherDefault, Hasher};
 use std::hint::black_box;
 
-/// One implementation with its own buffers. Each method does a whole batch, so that what picks
-/// the implementation is not in the time; each gives a number that all must agree on.
+/// One implementation with its own buffers. Each method does a whole batch on every image, so that
+/// what picks the implementation is not in the time; each gives a number that all must agree on.
+/// Hashes are for the images in turn, as many for each.
 pub trait Subject {
     fn name(&self) -> &'static str;
     /// Takes the members as they were at the start again.
@@ -48,49 +49,79 @@ pub trait Subject {
 pub struct Filter<C> {
     name: &'static str,
     catalogue: C,
+    /// The length of one image. Buffers but the target have one after the other.
+    length: usize,
     start: Vec<u8>,
     start_halves: [Vec<u8>; 2],
-    image: Lines,
+    images: Lines,
     halves: [Lines; 2],
     target: Lines,
-    old: Lines,
+    olds: Lines,
     /// The change count of the members at the start, which a page brings.
     changes: u64,
     out: Vec<u64>,
 }
 
 impl<C: Catalogue> Filter<C> {
-    /// With these members; `halves` are the two sources of the merge, `files` hold the buffers
-    /// where they are shared.
+    /// With these images, one after the other; `halves` are the two sources of the merges, `files`
+    /// hold the buffers where they are shared.
     pub fn new(
         name: &'static str,
         catalogue: C,
-        start: &[u8],
-        halves: &[Vec<u8>; 2],
-        members: usize,
+        setting: Setting,
+        [start, first, second]: &[Vec<u8>; 3],
         files: &[File],
     ) -> Self {
-        let [first, second] = halves;
+        let length = setting.shape().length();
+        let image = &start[..length];
+        let old = |image: &[u8]| image[..length - TAIL].to_vec();
+        let olds: Vec<u8> = start.chunks_exact(length).flat_map(old).collect();
         Filter {
             name,
             catalogue,
-            start: start.to_vec(),
-            start_halves: halves.clone(),
-            image: Lines::of(start, files.first()),
+            length,
+            start: start.clone(),
+            start_halves: [first.clone(), second.clone()],
+            images: Lines::of(start, files.first()),
             halves: [
                 Lines::of(first, files.get(1)),
                 Lines::of(second, files.get(2)),
             ],
-            target: Lines::of(start, files.get(3)),
-            old: Lines::of(&start[..start.len() - TAIL], files.get(4)),
-            changes: Tail::changes_in(start).expect("an image"),
-            out: vec![0; members],
+            target: Lines::of(image, files.get(3)),
+            olds: Lines::of(&olds, files.get(4)),
+            changes: Tail::changes_in(image).expect("an image"),
+            out: vec![0; setting.members()],
         }
+    }
+
+    /// The images, and the hashes for each.
+    fn with<'a>(&'a self, hashes: &'a [u64]) -> impl Iterator<Item = (&'a [u8], &'a [u64])> {
+        let images = self.images.chunks_exact(self.length);
+        let each = hashes.len() / images.len();
+        images.zip(hashes.chunks_exact(each))
+    }
+
+    /// The same for a call that changes the images.
+    fn change(&mut self, hashes: &[u64], call: impl Fn(&C, &mut [u8], u64) -> u64) -> u64 {
+        let images = self.images.chunks_exact_mut(self.length);
+        let each = hashes.len() / images.len();
+        let mut sum = 0;
+        for (image, hashes) in images.zip(hashes.chunks_exact(each)) {
+            for &hash in hashes {
+                sum += accepted(call(&self.catalogue, image, hash));
+            }
+        }
+        sum
     }
 }
 
 fn accepted(answer: u64) -> u64 {
     (answer >> 56 == 0) as u64
+}
+
+/// All answers in one: 0 where every one is.
+fn any(answers: impl Iterator<Item = u64>) -> u64 {
+    answers.fold(0, |all, answer| all | answer)
 }
 
 impl<C: Catalogue> Subject for Filter<C> {
@@ -99,7 +130,7 @@ impl<C: Catalogue> Subject for Filter<C> {
     }
 
     fn restore(&mut self) {
-        self.image.copy_from_slice(&self.start);
+        self.images.copy_from_slice(&self.start);
     }
 
     fn restore_all(&mut self) {
@@ -110,41 +141,55 @@ impl<C: Catalogue> Subject for Filter<C> {
     }
 
     fn ask(&mut self, hashes: &[u64]) -> u64 {
-        let image: &[u8] = &self.image;
-        let found = |&hash: &u64| self.catalogue.ask(image, hash) / 16 % 16;
-        hashes.iter().filter(|hash| found(hash) != 0).count() as u64
+        let mut found = 0;
+        for (image, hashes) in self.with(hashes) {
+            for &hash in hashes {
+                found += (self.catalogue.ask(image, hash) / 16 % 16 != 0) as u64;
+            }
+        }
+        found
     }
 
     fn count(&mut self, hashes: &[u64]) -> u64 {
-        let image: &[u8] = &self.image;
-        let copies = |&hash: &u64| self.catalogue.count(image, hash) & 0xFFFFFFFF;
-        hashes.iter().map(copies).sum()
+        let mut copies = 0;
+        for (image, hashes) in self.with(hashes) {
+            for &hash in hashes {
+                copies += self.catalogue.count(image, hash) & 0xFFFFFFFF;
+            }
+        }
+        copies
     }
 
     fn insert(&mut self, hashes: &[u64]) -> u64 {
-        let image: &mut [u8] = &mut self.image;
-        let insert = |&hash: &u64| accepted(self.catalogue.insert(image, hash));
-        hashes.iter().map(insert).sum()
+        self.change(hashes, |catalogue, image, hash| {
+            catalogue.insert(image, hash)
+        })
     }
 
     fn delete(&mut self, hashes: &[u64]) -> u64 {
-        let image: &mut [u8] = &mut self.image;
-        let delete = |&hash: &u64| accepted(self.catalogue.delete(image, hash));
-        hashes.iter().map(delete).sum()
+        self.change(hashes, |catalogue, image, hash| {
+            catalogue.delete(image, hash)
+        })
     }
 
     fn page(&mut self) -> Option<u64> {
-        let (image, changes) = (&self.image, self.changes);
-        Some(self.catalogue.page(image, 0, changes, &mut self.out) & 0xFFFFFFFF)
+        let images = self.images.chunks_exact(self.length);
+        let page = |image| self.catalogue.page(image, 0, self.changes, &mut self.out);
+        Some(images.map(page).map(|answer| answer & 0xFFFFFFFF).sum())
     }
 
     fn merge(&mut self) -> Option<u64> {
         let [first, second] = &self.halves;
-        Some(self.catalogue.merge(first, second, &mut self.target))
+        let sources = first
+            .chunks_exact(self.length)
+            .zip(second.chunks_exact(self.length));
+        let merge = |(first, second)| self.catalogue.merge(first, second, &mut self.target);
+        Some(any(sources.map(merge)))
     }
 
     fn check(&mut self) -> Option<u64> {
-        Some(self.catalogue.check(&self.image))
+        let images = self.images.chunks_exact(self.length);
+        Some(any(images.map(|image| self.catalogue.check(image))))
     }
 
     fn fresh(&mut self) -> Option<u64> {
@@ -152,15 +197,20 @@ impl<C: Catalogue> Subject for Filter<C> {
     }
 
     fn attach(&mut self) -> Option<u64> {
-        Some(self.catalogue.attach(&self.old, &mut self.target))
+        let olds = self.olds.chunks_exact(self.length - TAIL);
+        let attach = |old| self.catalogue.attach(old, &mut self.target);
+        Some(any(olds.map(attach)))
     }
 
     fn detach(&mut self) -> Option<u64> {
-        Some(self.catalogue.detach(&self.image, &mut self.old))
+        let olds = self.olds.chunks_exact_mut(self.length - TAIL);
+        let images = self.images.chunks_exact(self.length);
+        let detach = |(image, old)| self.catalogue.detach(image, old);
+        Some(any(images.zip(olds).map(detach)))
     }
 
     fn tail(&mut self, times: u64) -> Option<u64> {
-        let image: &[u8] = &self.image;
+        let image: &[u8] = &self.images[..self.length];
         let total = |_| {
             let mut out = [0; 2];
             black_box(self.catalogue.tail(black_box(image), &mut out));
@@ -170,7 +220,7 @@ impl<C: Catalogue> Subject for Filter<C> {
     }
 
     fn bytes(&self) -> usize {
-        self.image.len()
+        self.start.len()
     }
 }
 
@@ -192,10 +242,10 @@ impl Hasher for PassOn {
 
 type Counts = HashMap<u64, u32, BuildHasherDefault<PassOn>>;
 
-/// A hash map from hashes to their copies.
+/// Hash maps from hashes to their copies.
 pub struct Map {
-    counts: Counts,
-    halves: [Counts; 2],
+    maps: Vec<Counts>,
+    halves: Vec<[Counts; 2]>,
     out: Vec<u64>,
     bytes: usize,
 }
@@ -209,18 +259,30 @@ fn counts(hashes: &[u64]) -> Counts {
 }
 
 impl Map {
-    pub fn new(members: &[u64]) -> Map {
-        let (first, second) = sources(members);
-        let all = counts(members);
-        // The table of the map: a power of two of entries, 16 bytes and a control byte each, at
+    pub fn new<'a>(members: impl Iterator<Item = &'a [u64]> + Clone) -> Map {
+        let maps: Vec<Counts> = members.clone().map(counts).collect();
+        let halves = |members| {
+            let (first, second) = sources(members);
+            [counts(first), counts(second)]
+        };
+        // The table of a map: a power of two of entries, 16 bytes and a control byte each, at
         // most 7 of 8 in use.
-        let entries = (all.capacity() * 8 / 7).next_power_of_two();
+        let bytes = |map: &Counts| (map.capacity() * 8 / 7).next_power_of_two() * 17 + 16;
         Map {
-            counts: all,
-            halves: [counts(first), counts(second)],
-            out: Vec::with_capacity(members.len()),
-            bytes: entries * 17 + 16,
+            bytes: maps.iter().map(bytes).sum(),
+            maps,
+            halves: members.map(halves).collect(),
+            out: Vec::new(),
         }
+    }
+
+    /// The maps, and the hashes for each.
+    fn with<'a>(
+        &'a mut self,
+        hashes: &'a [u64],
+    ) -> impl Iterator<Item = (&'a mut Counts, &'a [u64])> {
+        let each = hashes.len() / self.maps.len();
+        self.maps.iter_mut().zip(hashes.chunks_exact(each))
     }
 }
 
@@ -234,18 +296,30 @@ impl Subject for Map {
     fn restore_all(&mut self) {}
 
     fn ask(&mut self, hashes: &[u64]) -> u64 {
-        let found = |hash: &&u64| self.counts.contains_key(hash);
-        hashes.iter().filter(found).count() as u64
+        let mut found = 0;
+        for (counts, hashes) in self.with(hashes) {
+            found += hashes
+                .iter()
+                .filter(|&hash| counts.contains_key(hash))
+                .count() as u64;
+        }
+        found
     }
 
     fn count(&mut self, hashes: &[u64]) -> u64 {
-        let copies = |hash: &u64| self.counts.get(hash).copied().unwrap_or(0) as u64;
-        hashes.iter().map(copies).sum()
+        let mut sum = 0;
+        for (counts, hashes) in self.with(hashes) {
+            let copies = |hash| counts.get(hash).copied().unwrap_or(0) as u64;
+            sum += hashes.iter().map(copies).sum::<u64>();
+        }
+        sum
     }
 
     fn insert(&mut self, hashes: &[u64]) -> u64 {
-        for &hash in hashes {
-            *self.counts.entry(hash).or_insert(0) += 1;
+        for (counts, hashes) in self.with(hashes) {
+            for &hash in hashes {
+                *counts.entry(hash).or_insert(0) += 1;
+            }
         }
         hashes.len() as u64
     }
@@ -253,35 +327,43 @@ impl Subject for Map {
     fn delete(&mut self, hashes: &[u64]) -> u64 {
         use std::collections::hash_map::Entry;
         let mut accepted = 0;
-        for &hash in hashes {
-            if let Entry::Occupied(mut entry) = self.counts.entry(hash) {
-                *entry.get_mut() -= 1;
-                if *entry.get() == 0 {
-                    entry.remove();
+        for (counts, hashes) in self.with(hashes) {
+            for &hash in hashes {
+                if let Entry::Occupied(mut entry) = counts.entry(hash) {
+                    *entry.get_mut() -= 1;
+                    if *entry.get() == 0 {
+                        entry.remove();
+                    }
+                    accepted += 1;
                 }
-                accepted += 1;
             }
         }
         accepted
     }
 
     fn page(&mut self) -> Option<u64> {
-        self.out.clear();
-        for (&hash, &copies) in &self.counts {
-            self.out.extend(std::iter::repeat_n(hash, copies as usize));
+        let mut listed = 0;
+        for counts in &self.maps {
+            self.out.clear();
+            for (&hash, &copies) in counts {
+                self.out.extend(std::iter::repeat_n(hash, copies as usize));
+            }
+            self.out.sort_unstable();
+            listed += self.out.len() as u64;
         }
-        self.out.sort_unstable();
-        Some(self.out.len() as u64)
+        Some(listed)
     }
 
     fn merge(&mut self) -> Option<u64> {
-        let [first, second] = &self.halves;
-        let most = first.len() + second.len();
-        let mut merged = Counts::with_capacity_and_hasher(most, Default::default());
-        for (&hash, &copies) in first.iter().chain(second) {
-            *merged.entry(hash).or_insert(0) += copies;
-        }
-        Some(merged.is_empty() as u64)
+        let merge = |[first, second]: &[Counts; 2]| {
+            let most = first.len() + second.len();
+            let mut merged = Counts::with_capacity_and_hasher(most, Default::default());
+            for (&hash, &copies) in first.iter().chain(second) {
+                *merged.entry(hash).or_insert(0) += copies;
+            }
+            merged.is_empty() as u64
+        };
+        Some(any(self.halves.iter().map(merge)))
     }
 
     fn check(&mut self) -> Option<u64> {

@@ -9,50 +9,57 @@ use model::random::Random;
 use model::shape::{Shape, BUCKET};
 use model::stored::{Images, Line};
 
-/// Unverified Rust.
-pub struct Fast;
+/// Unverified Rust: the calls of a crate, which has neither rows nor occupancy pages.
+macro_rules! unverified {
+    ($name:ident, $calls:ident) => {
+        pub struct $name;
 
-impl Catalogue for Fast {
-    fn fresh(&self, image: &mut [u8]) -> u64 {
-        fast::fresh(image)
-    }
-    fn check(&self, image: &[u8]) -> u64 {
-        fast::check(image)
-    }
-    fn insert(&self, image: &mut [u8], hash: u64) -> u64 {
-        fast::insert(image, hash)
-    }
-    fn delete(&self, image: &mut [u8], hash: u64) -> u64 {
-        fast::delete(image, hash)
-    }
-    fn ask(&self, image: &[u8], hash: u64) -> u64 {
-        fast::ask(image, hash)
-    }
-    fn row(&self, _: &[u8], _: &mut [Entry]) -> Option<u64> {
-        None
-    }
-    fn count(&self, image: &[u8], hash: u64) -> u64 {
-        fast::count(image, hash)
-    }
-    fn page(&self, image: &[u8], start: u64, changes: u64, out: &mut [u64]) -> u64 {
-        fast::page(image, start, changes, out)
-    }
-    fn occupancy(&self, _: &[u8], _: u64, _: &mut [u8]) -> Option<u64> {
-        None
-    }
-    fn merge(&self, first: &[u8], second: &[u8], target: &mut [u8]) -> u64 {
-        fast::merge(first, second, target)
-    }
-    fn tail(&self, image: &[u8], out: &mut [u64]) -> u64 {
-        fast::tail(image, out)
-    }
-    fn attach(&self, old: &[u8], target: &mut [u8]) -> u64 {
-        fast::attach(old, target)
-    }
-    fn detach(&self, image: &[u8], target: &mut [u8]) -> u64 {
-        fast::detach(image, target)
-    }
+        impl Catalogue for $name {
+            fn fresh(&self, image: &mut [u8]) -> u64 {
+                $calls::fresh(image)
+            }
+            fn check(&self, image: &[u8]) -> u64 {
+                $calls::check(image)
+            }
+            fn insert(&self, image: &mut [u8], hash: u64) -> u64 {
+                $calls::insert(image, hash)
+            }
+            fn delete(&self, image: &mut [u8], hash: u64) -> u64 {
+                $calls::delete(image, hash)
+            }
+            fn ask(&self, image: &[u8], hash: u64) -> u64 {
+                $calls::ask(image, hash)
+            }
+            fn row(&self, _: &[u8], _: &mut [Entry]) -> Option<u64> {
+                None
+            }
+            fn count(&self, image: &[u8], hash: u64) -> u64 {
+                $calls::count(image, hash)
+            }
+            fn page(&self, image: &[u8], start: u64, changes: u64, out: &mut [u64]) -> u64 {
+                $calls::page(image, start, changes, out)
+            }
+            fn occupancy(&self, _: &[u8], _: u64, _: &mut [u8]) -> Option<u64> {
+                None
+            }
+            fn merge(&self, first: &[u8], second: &[u8], target: &mut [u8]) -> u64 {
+                $calls::merge(first, second, target)
+            }
+            fn tail(&self, image: &[u8], out: &mut [u64]) -> u64 {
+                $calls::tail(image, out)
+            }
+            fn attach(&self, old: &[u8], target: &mut [u8]) -> u64 {
+                $calls::attach(old, target)
+            }
+            fn detach(&self, image: &[u8], target: &mut [u8]) -> u64 {
+                $calls::detach(image, target)
+            }
+        }
+    };
 }
+
+unverified!(Fast, fast);
+unverified!(Quick, quick);
 
 /// The C functions.
 #[cfg(feature = "capi")]

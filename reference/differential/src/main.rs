@@ -1,14 +1,14 @@
 //! Compares an implementation with the model.
 //!
-//!     differential CALLS SEED [fast | capi]
-//!     differential vectors FILE [fast | capi]
+//!     differential CALLS SEED [fast | quick | capi]
+//!     differential vectors FILE [fast | quick | capi]
 //!
 //! The first plays random histories until so many calls are compared, and once the shortest and
 //! the longest image of either form; rows of asks and occupancy pages are compared beside them. The second replays
 //! the calls of another model. `capi` is there with the feature of that name, and then is what is
 //! compared.
 
-use differential::{Fast, Follower};
+use differential::{Fast, Follower, Quick};
 use model::catalogue::Catalogue;
 
 #[cfg(feature = "capi")]
@@ -19,6 +19,7 @@ const DEFAULT: &str = "fast";
 fn implementation(name: &str) -> Option<&'static dyn Catalogue> {
     match name {
         "fast" => Some(&Fast),
+        "quick" => Some(&Quick),
         #[cfg(feature = "capi")]
         "capi" => Some(&differential::Capi),
         _ => None,
@@ -41,8 +42,8 @@ fn main() {
 }
 
 fn usage() {
-    eprintln!("usage: differential CALLS SEED [fast | capi]");
-    eprintln!("       differential vectors FILE [fast | capi]");
+    eprintln!("usage: differential CALLS SEED [fast | quick | capi]");
+    eprintln!("       differential vectors FILE [fast | quick | capi]");
     std::process::exit(2);
 }
 

@@ -3,6 +3,7 @@
 //! A front member is a key, mini-bucket × 2^16 + tag; a backyard member is key × 16 + crumb.
 //! Every function takes a pointer to the 64 bytes of a bucket. Those that say so rely on a
 //! sound bucket.
+#![allow(clippy::missing_safety_doc)]
 
 use crate::bits::{low, lowest_one, select, with_zero, without_zero};
 
@@ -10,6 +11,8 @@ use crate::bits::{low, lowest_one, select, with_zero, without_zero};
 pub const EMPTY: u64 = (1 << 36) - 1;
 pub const FRONT_SLOTS: u32 = 28;
 pub const BACKYARD_SLOTS: u32 = 22;
+/// Room for all keys of a front bucket: its own, and those of both backyard buckets.
+pub type Keys = [u32; 72];
 /// Every crumb is valid.
 pub const ALL_CRUMBS: u32 = 0xFFFF;
 
@@ -29,13 +32,13 @@ pub unsafe fn tag(b: *const u8, slot: u32) -> u32 {
 }
 
 #[inline(always)]
-unsafe fn put_tag(b: *mut u8, slot: u32, tag: u32) {
+pub unsafe fn put_tag(b: *mut u8, slot: u32, tag: u32) {
     (b.add(8 + 2 * slot as usize) as *mut u16).write_unaligned((tag as u16).to_le());
 }
 
 /// Crumbs of slots 0 to 15, and of slots 16 to 21 with byte 63 on top.
 #[inline(always)]
-unsafe fn crumbs(b: *const u8) -> (u64, u32) {
+pub unsafe fn crumbs(b: *const u8) -> (u64, u32) {
     let low = u64::from_le((b.add(52) as *const u64).read_unaligned());
     let high = u32::from_le((b.add(60) as *const u32).read_unaligned());
     (low, high)
@@ -141,17 +144,20 @@ pub unsafe fn read_backyard(b: *const u8, valid: u32, key: u32) -> Option<Read> 
         )*};
     }
     backyard_slots!(step);
-    if last > 36 << 20 {
-        return None;
-    }
+    (last <= 36 << 20 && crumbs_valid(b, word, valid)).then_some(Read { word, below })
+}
+
+/// Whether the crumbs of all members are among the valid ones.
+#[inline(always)]
+pub unsafe fn crumbs_valid(b: *const u8, word: u64, valid: u32) -> bool {
     if valid != ALL_CRUMBS {
         for slot in 0..members(word) {
             if valid >> crumb(b, slot) & 1 == 0 {
-                return None;
+                return false;
             }
         }
     }
-    Some(Read { word, below })
+    true
 }
 
 /// Whether slot `slot` is a member of mini-bucket `mini`, where the members of lower
@@ -241,31 +247,6 @@ pub unsafe fn largest(b: *const u8, word: u64) -> u32 {
     (36 - word.leading_ones()) << 16 | tag(b, 27)
 }
 
-/// How many members of a sound front bucket are below a key, without reading it whole.
-#[inline(always)]
-pub unsafe fn rank_front(b: *const u8, word: u64, key: u32) -> u32 {
-    let (mini, wanted) = (key >> 16, key & 0xFFFF);
-    let mut slot = start_of(word, mini);
-    while slot < FRONT_SLOTS && is_in(word, mini, slot) && tag(b, slot) < wanted {
-        slot += 1;
-    }
-    slot
-}
-
-/// The same for a sound backyard bucket.
-#[inline(always)]
-pub unsafe fn rank_backyard(b: *const u8, word: u64, key: u32) -> u32 {
-    let mini = key >> 20;
-    let mut slot = start_of(word, mini);
-    while slot < BACKYARD_SLOTS
-        && is_in(word, mini, slot)
-        && tag(b, slot) << 4 | crumb(b, slot) < key & 0xFFFFF
-    {
-        slot += 1;
-    }
-    slot
-}
-
 /// The slot where a mini-bucket starts.
 #[inline(always)]
 fn start_of(word: u64, mini: u32) -> u32 {
@@ -316,69 +297,162 @@ pub unsafe fn count_crumb(b: *const u8, word: u64, crumb: u32) -> u32 {
     22 - other - unused
 }
 
-/// Puts a key into slot `slot` of a sound front bucket with room.
-#[inline(always)]
-pub unsafe fn insert_front(b: *mut u8, word: u64, slot: u32, key: u32) {
-    put_word(b, with_zero(word, slot + (key >> 16)));
-    move_up(b, slot, members(word) - slot);
-    put_tag(b, slot, key);
+/// What a call does with a bucket. The provided methods are those of `fast`; another way may have
+/// others that give the same.
+pub trait Bucket {
+    /// Reads a front bucket whole, and counts the members below `key`; nothing where it is unsound.
+    #[inline(always)]
+    unsafe fn read_front(b: *const u8, key: u32) -> Option<Read> {
+        read_front(b, key)
+    }
+
+    /// Reads a backyard bucket whole, and counts the members below `key`. Bit c of `valid` tells
+    /// whether crumb c is valid here.
+    #[inline(always)]
+    unsafe fn read_backyard(b: *const u8, valid: u32, key: u32) -> Option<Read> {
+        read_backyard(b, valid, key)
+    }
+
+    /// How many members of a sound front bucket are below a key, without reading it whole.
+    #[inline(always)]
+    unsafe fn rank_front(b: *const u8, word: u64, key: u32) -> u32 {
+        let (mini, wanted) = (key >> 16, key & 0xFFFF);
+        let mut slot = start_of(word, mini);
+        while slot < FRONT_SLOTS && is_in(word, mini, slot) && tag(b, slot) < wanted {
+            slot += 1;
+        }
+        slot
+    }
+
+    /// The same for a sound backyard bucket.
+    #[inline(always)]
+    unsafe fn rank_backyard(b: *const u8, word: u64, key: u32) -> u32 {
+        let mini = key >> 20;
+        let mut slot = start_of(word, mini);
+        while slot < BACKYARD_SLOTS
+            && is_in(word, mini, slot)
+            && tag(b, slot) << 4 | crumb(b, slot) < key & 0xFFFFF
+        {
+            slot += 1;
+        }
+        slot
+    }
+
+    /// The keys, without their crumb, of the members of a sound backyard bucket with this crumb,
+    /// written from `at` on; where they end.
+    #[inline(always)]
+    unsafe fn keys_with_crumb(
+        b: *const u8,
+        word: u64,
+        wanted: u32,
+        keys: &mut [u32],
+        mut at: usize,
+    ) -> usize {
+        let mut zeros = !word;
+        for slot in 0..members(word) {
+            let mini = lowest_one(zeros) - slot;
+            zeros &= zeros - 1;
+            if crumb(b, slot) == wanted {
+                *keys.get_unchecked_mut(at) = mini << 16 | tag(b, slot);
+                at += 1;
+            }
+        }
+        at
+    }
+
+    /// Merges so many keys of two lists that ascend, at most 28 of both, into the start of `keys`.
+    #[inline(always)]
+    unsafe fn merge_keys(
+        (first, kept): (&Keys, usize),
+        (second, taken): (&Keys, usize),
+        keys: &mut [u32; 28],
+    ) {
+        let (mut i, mut j) = (0, 0);
+        for to in 0..kept + taken {
+            let from_first =
+                j == taken || (i < kept && *first.get_unchecked(i) <= *second.get_unchecked(j));
+            let key = if from_first {
+                i += 1;
+                *first.get_unchecked(i - 1)
+            } else {
+                j += 1;
+                *second.get_unchecked(j - 1)
+            };
+            *keys.get_unchecked_mut(to) = key;
+        }
+    }
+
+    /// Moves `how_many` tags from `slot` on one slot up, in a bucket with so many slots. Those past
+    /// them hold 0, or there is one, which need not stay.
+    #[inline(always)]
+    unsafe fn move_up(b: *mut u8, _slots: u32, slot: u32, how_many: u32) {
+        let from = b.add(8 + 2 * slot as usize);
+        std::ptr::copy(from, from.add(2), 2 * how_many as usize);
+    }
+
+    /// Moves `how_many` tags from `slot` + 1 on one slot down. Those past them hold 0.
+    #[inline(always)]
+    unsafe fn move_down(b: *mut u8, _slots: u32, slot: u32, how_many: u32) {
+        let to = b.add(8 + 2 * slot as usize);
+        std::ptr::copy(to.add(2), to, 2 * how_many as usize);
+    }
+
+    /// Puts a key into slot `slot` of a sound front bucket with room. The word is stored last: tags
+    /// that are moved together are read from its end on.
+    #[inline(always)]
+    unsafe fn insert_front(b: *mut u8, word: u64, slot: u32, key: u32) {
+        Self::move_up(b, FRONT_SLOTS, slot, members(word) - slot);
+        put_tag(b, slot, key);
+        put_word(b, with_zero(word, slot + (key >> 16)));
+    }
+
+    /// Takes the last of 28 out of a sound front bucket and puts a key, not above it, into `slot`.
+    #[inline(always)]
+    unsafe fn push_front(b: *mut u8, word: u64, slot: u32, key: u32) {
+        let rest = without_zero(word, 63 - word.leading_ones());
+        Self::move_up(b, FRONT_SLOTS, slot, 27 - slot);
+        put_tag(b, slot, key);
+        put_word(b, with_zero(rest, slot + (key >> 16)));
+    }
+
+    /// Takes a key out of its slot of a sound front bucket.
+    #[inline(always)]
+    unsafe fn remove_front(b: *mut u8, word: u64, slot: u32, key: u32) {
+        Self::move_down(b, FRONT_SLOTS, slot, members(word) - slot - 1);
+        put_tag(b, members(word) - 1, 0);
+        put_word(b, without_zero(word, slot + (key >> 16)));
+    }
+
+    /// Puts a key into slot `slot` of a sound backyard bucket with room.
+    #[inline(always)]
+    unsafe fn insert_backyard(b: *mut u8, word: u64, slot: u32, key: u32) {
+        Self::move_up(b, BACKYARD_SLOTS, slot, members(word) - slot);
+        put_tag(b, slot, key >> 4);
+        put_word(b, with_zero(word, slot + (key >> 20)));
+        let (crumbs0, crumbs1) = crumbs(b);
+        let all = (crumbs1 as u128) << 64 | crumbs0 as u128;
+        let kept = all & ((1 << (4 * slot)) - 1);
+        let crumb = (key as u128 & 15) << (4 * slot);
+        put_crumbs(b, kept | crumb | (all ^ kept) << 4);
+    }
+
+    /// Takes a key out of its slot of a sound backyard bucket.
+    #[inline(always)]
+    unsafe fn remove_backyard(b: *mut u8, word: u64, slot: u32, key: u32) {
+        Self::move_down(b, BACKYARD_SLOTS, slot, members(word) - slot - 1);
+        put_tag(b, members(word) - 1, 0);
+        put_word(b, without_zero(word, slot + (key >> 20)));
+        let (crumbs0, crumbs1) = crumbs(b);
+        let all = (crumbs1 as u128) << 64 | crumbs0 as u128;
+        let kept = all & ((1 << (4 * slot)) - 1);
+        put_crumbs(b, kept | (all >> (4 * slot + 4)) << (4 * slot));
+    }
 }
 
-/// Takes the last of 28 out of a sound front bucket and puts a key, not above it, into `slot`.
-#[inline(always)]
-pub unsafe fn push_front(b: *mut u8, word: u64, slot: u32, key: u32) {
-    let rest = without_zero(word, 63 - word.leading_ones());
-    put_word(b, with_zero(rest, slot + (key >> 16)));
-    move_up(b, slot, 27 - slot);
-    put_tag(b, slot, key);
-}
+/// The way of `fast`.
+pub struct Plain;
 
-/// Takes a key out of its slot of a sound front bucket.
-#[inline(always)]
-pub unsafe fn remove_front(b: *mut u8, word: u64, slot: u32, key: u32) {
-    put_word(b, without_zero(word, slot + (key >> 16)));
-    move_down(b, slot, members(word) - slot - 1);
-    put_tag(b, members(word) - 1, 0);
-}
-
-/// Puts a key into slot `slot` of a sound backyard bucket with room.
-#[inline(always)]
-pub unsafe fn insert_backyard(b: *mut u8, word: u64, slot: u32, key: u32) {
-    put_word(b, with_zero(word, slot + (key >> 20)));
-    move_up(b, slot, members(word) - slot);
-    put_tag(b, slot, key >> 4);
-    let (crumbs0, crumbs1) = crumbs(b);
-    let all = (crumbs1 as u128) << 64 | crumbs0 as u128;
-    let kept = all & ((1 << (4 * slot)) - 1);
-    let crumb = (key as u128 & 15) << (4 * slot);
-    put_crumbs(b, kept | crumb | (all ^ kept) << 4);
-}
-
-/// Takes a key out of its slot of a sound backyard bucket.
-#[inline(always)]
-pub unsafe fn remove_backyard(b: *mut u8, word: u64, slot: u32, key: u32) {
-    put_word(b, without_zero(word, slot + (key >> 20)));
-    move_down(b, slot, members(word) - slot - 1);
-    put_tag(b, members(word) - 1, 0);
-    let (crumbs0, crumbs1) = crumbs(b);
-    let all = (crumbs1 as u128) << 64 | crumbs0 as u128;
-    let kept = all & ((1 << (4 * slot)) - 1);
-    put_crumbs(b, kept | (all >> (4 * slot + 4)) << (4 * slot));
-}
-
-/// Moves `how_many` tags from `slot` on one slot up.
-#[inline(always)]
-unsafe fn move_up(b: *mut u8, slot: u32, how_many: u32) {
-    let from = b.add(8 + 2 * slot as usize);
-    std::ptr::copy(from, from.add(2), 2 * how_many as usize);
-}
-
-/// Moves `how_many` tags from `slot` + 1 on one slot down.
-#[inline(always)]
-unsafe fn move_down(b: *mut u8, slot: u32, how_many: u32) {
-    let to = b.add(8 + 2 * slot as usize);
-    std::ptr::copy(to.add(2), to, 2 * how_many as usize);
-}
+impl Bucket for Plain {}
 
 /// An empty bucket.
 #[inline(always)]
@@ -398,28 +472,6 @@ pub unsafe fn keys_front(b: *const u8, word: u64, keys: &mut [u32]) -> usize {
         *keys.get_unchecked_mut(slot as usize) = mini << 16 | tag(b, slot);
     }
     n as usize
-}
-
-/// The keys, without their crumb, of the members of a sound backyard bucket with this crumb,
-/// written from `at` on; where they end.
-#[inline(always)]
-pub unsafe fn keys_with_crumb(
-    b: *const u8,
-    word: u64,
-    wanted: u32,
-    keys: &mut [u32],
-    mut at: usize,
-) -> usize {
-    let mut zeros = !word;
-    for slot in 0..members(word) {
-        let mini = lowest_one(zeros) - slot;
-        zeros &= zeros - 1;
-        if crumb(b, slot) == wanted {
-            *keys.get_unchecked_mut(at) = mini << 16 | tag(b, slot);
-            at += 1;
-        }
-    }
-    at
 }
 
 /// A front bucket with these keys, at most 28 and ascending.
