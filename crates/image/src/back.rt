@@ -11,6 +11,7 @@ use crumbmap::Ways;
 use edits::edit::insert_back;
 use edits::edit::remove_back;
 use minifilter::Reading;
+use minifilter::read::quick_back;
 use minifilter::read::read_back;
 use search::Search;
 use search::find::find_back;
@@ -30,6 +31,21 @@ pub fn read_back_at(image: &[u8], size: usize, bucket: Backyard, member: u32) ->
     ensures { λ r. ⌜ BackSays layout1 size (bucket .0) member (now (image .entry)) r ⌝ }
 {
     read_back(back_bucket(image, size, bucket), size, bucket, member)
+}
+
+// The same where nobody asks for a member.
+pub fn sound_back_at(image: &[u8], size: usize, bucket: Backyard) -> Reading
+    requires { ⌜ BackIn size (bucket .0) (now image) ⌝ }
+    ensures { λ r. ⌜ BackSays layout1 size (bucket .0) 0 (now (image .entry)) r ⌝ }
+{
+    let Reading::Members(members, below) = quick_back(
+        back_bucket(image, size, bucket),
+        size,
+        bucket,
+    ) else {
+        return read_back_at(image, size, bucket, 0);
+    };
+    Reading::Members(members, below)
 }
 
 // A member joins a backyard bucket that has a free slot, behind the members below it.

@@ -123,7 +123,7 @@ abbrev pub memberKey : Bool → ℕ → ℕ
 memberKey false x = x
 memberKey true y = y / 16
 
-crumb-lt : (L : Layout) (b : List ℕ) (i : ℕ) → crumbAt L b i < 16
+pub crumb-lt : (L : Layout) (b : List ℕ) (i : ℕ) → crumbAt L b i < 16
 crumb-lt L b i = below-getD 16 i (crumbsIn L b) (lit< tt) (below-crumbsIn L b)
 
 module _ (L : Layout) (b ys : List ℕ) (h : Held L true b ys) (i : ℕ) (l : i < length ys) where

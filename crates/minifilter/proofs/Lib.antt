@@ -2,6 +2,7 @@
 pub mod PassLaws
 pub mod MarkLaws
 pub mod QuickLaws
+pub mod RiseLaws
 pub mod SlotOrder
 pub mod ReadLaws
 pub mod CrumbLaws

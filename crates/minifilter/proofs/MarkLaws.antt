@@ -1,5 +1,5 @@
 -- Marks: one number that says of each of n numbers whether f takes t there. One more is looked at (`marks-hit`, `marks-miss`); the first that is marked
--- (`marks-none`, `first-mark`); and those in a row from there (`run-one`, `run-more`).
+-- (`marks-none`, `first-mark`); those in a row from there (`run-one`, `run-more`); and any by its place (`mark-set`, `mark-told`).
 use mathlib.Core.Path.{_≡_, sym, ap, _∙_}
 use Prim.Native.Nat.{ℕ, zero, suc, _+_, _*_, _-_, _/_, _%_, _^_, _≤_, _<_}
 use mathlib.Core.Bool.{cond}
@@ -89,6 +89,19 @@ module _ (f : ℕ → ℕ) (t : ℕ) where
       let half : (mark i + 2 * m) / 2 ≡ m = elim (ℕ-discrete (f i) t) [ yes y ↦ omega (arith, mark-yes i y) | no y ↦ omega (arith, mark-no i y) ] in
       let next : suc i + j ≡ i + suc j = omega arith in
       rw (pow-succ' 2 j, ← div-div-eq-div-mul (mark i + 2 * m) 2 (2 ^ j), half) (mark-set (suc i) n j (omega arith) (rw next e))
+
+  pub mark-told : (i n j : ℕ) → j < n → marksOf f t i n / 2 ^ j % 2 ≡ 1 → f (i + j) ≡ t
+  unfolding marksOf
+  mark-told i zero j h e = absurd (omega arith)
+  mark-told i (suc n) zero h e = elim (ℕ-discrete (f i) t) [
+    | yes y ↦ rw (add-zero i) y
+    | no y ↦ absurd (omega (arith, e, mark-no i y, div-one (mark i + 2 * marksOf f t (suc i) n)))
+  ]
+  mark-told i (suc n) (suc j) h e =
+      let m : ℕ = marksOf f t (suc i) n in
+      let half : (mark i + 2 * m) / 2 ≡ m = elim (ℕ-discrete (f i) t) [ yes y ↦ omega (arith, mark-yes i y) | no y ↦ omega (arith, mark-no i y) ] in
+      let next : suc i + j ≡ i + suc j = omega arith in
+      rw next at (mark-told (suc i) n j (omega arith) (rw (pow-succ' 2 j, ← div-div-eq-div-mul (mark i + 2 * m) 2 (2 ^ j), half) at e))
 
   -- no mark
   pub marks-none : (i n : ℕ) → marksOf f t i n ≡ 0 → (j : ℕ) → i ≤ j → j < i + n → f j ≡ t → ⊥

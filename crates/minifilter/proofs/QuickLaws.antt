@@ -1,5 +1,6 @@
 -- Why the quick test of a front bucket suffices, at any layout: where each slot whose tag is above the next one's stands right below a one of the
--- word, and what is past the members is 0, the slots are in order. Main results: `covered`, `slots-rise`, `quick-order`.
+-- word, and what is past the members is 0, the slots are in order. Main results: `covered`, `slots-rise`, `quick-order`; for either kind of bucket
+-- `key-rises`, `members-order`.
 use mathlib.Core.Path.{_≡_, refl, sym, _∙_, ap}
 use Prim.Native.Nat.{ℕ, zero, suc, _+_, _*_, _-_, _/_, _%_, _^_, _≤_, _<_}
 use mathlib.Core.Bool.{Bool, true, false}
@@ -11,13 +12,12 @@ use lib.ListN.{length, getD, replicate}
 use lib.Pow.{pow-pos, pow-mono}
 use lib.Count.{ones, onesIn}
 use lib.Bits.{bitAnd, and-step}
-use lib.Dec.{leb}
 use borrow.Author.Tests.{le-leb, lt-ltb, le-ltb}
 use Rattle.multiset.specs.Multisets.{ascending, atLeast, Below}
 use Rattle.crumbmap.specs.Layouts.{Layout, layout1, tags}
 use Rattle.buckets.specs.Buckets.{Fits64}
 use Rattle.borders.specs.Steps.Borders.{zerosIn, endsIn, bordersIn}
-use Rattle.minifilter.specs.Steps.Slots.{endOf, bitsOf, zerosOf, tagsOf, tagAt, minisOf, slotMinis, slotMembers, inOrder, Ordered}
+use Rattle.minifilter.specs.Steps.Slots.{slotsOf, slotCrumbs, memberOf, endOf, bitsOf, zerosOf, tagsOf, tagAt, minisOf, slotMinis, slotMembers, inOrder, Ordered}
 use Rattle.minifilter.specs.Steps.Marks.{marksOf, fallAt}
 use Rattle.buckets.proofs.WordLaws.{Run, Coded, done, member, end, coded-run, coded-lt, coded-minisIn, minisIn-run, run-at}
 use Rattle.multiset.proofs.MultisetLaws.{below-at}
@@ -31,7 +31,7 @@ use Rattle.minifilter.proofs.PassLaws.{tag-in, bits-room, length-slotMi
 
 -- ---- a bit of a number
 
-bit-suc : (x i : ℕ) → x / 2 ^ suc i ≡ x / 2 / 2 ^ i
+pub bit-suc : (x i : ℕ) → x / 2 ^ suc i ≡ x / 2 / 2 ^ i
 bit-suc x i = rw (pow-succ' 2 i) (sym (div-div-eq-div-mul x 2 (2 ^ i)))
 
 -- where x and what y lacks have no bit in common, y has every bit that x has
@@ -106,6 +106,24 @@ module _ (L : Layout) (crumbs : Bool) (w : ℕ) (small : w < 2 ^ bitsOf L crumbs
       let p : ℕ = zerosOf L crumbs - length (minisOf L crumbs w) in
       rw (zero-add (L .minis)) at (ends-rise (c .0) p d i b (omega (arith, c .1)))
 
+  inside : (i : ℕ) → i < slotsOf L crumbs → i < length (slotMinis L crumbs w)
+  inside i h = rw (length-slotMinis L crumbs w small full) (omega (arith, bits-room L crumbs))
+
+  -- no slot is over an earlier mini-bucket than the one before it, and none is over one past the end
+  pub mini-flat : (i : ℕ) → suc i < slotsOf L crumbs → getD (slotMinis L crumbs w) i 0 ≤ getD (slotMinis L crumbs w) (suc i) 0
+  mini-flat i h = run-rise 0 (suc (L .minis)) i (slotMinis L crumbs w) (slotMinis-run L crumbs w small full) (inside (suc i) h)
+
+  pub mini-last : (i : ℕ) → i < slotsOf L crumbs → getD (slotMinis L crumbs w) i 0 ≤ L .minis
+  mini-last i h =
+      let r = run-at 0 (suc (L .minis)) i (slotMinis L crumbs w) (slotMinis-run L crumbs w small full) (inside i h) in
+      omega (arith, r .1)
+
+  -- a slot in use is over a mini-bucket
+  pub mini-used : (i : ℕ) → i < length (minisOf L crumbs w) → getD (slotMinis L crumbs w) i 0 < L .minis
+  mini-used i h =
+      rw (slotMinis-used L crumbs w small full i h)
+      (run-at 0 (L .minis) i (minisOf L crumbs w) (minisIn-run (bitsOf L crumbs) (L .minis) w small full) h .1)
+
 -- ---- in order, slot by slot
 
 ascending-pairs : (ks : List ℕ) (e : ℕ) → ((i : ℕ) → suc i < length ks → getD ks i 0 ≤ getD ks (suc i) 0)
@@ -117,33 +135,47 @@ ascending-pairs (x ∷ y ∷ ks) e p l =
     rw (le-leb x y (p 0 (omega arith)))
     (ascending-pairs (y ∷ ks) e (λ i h. p (suc i) (omega arith)) (λ i h. l (suc i) (omega arith)))
 
-module _ (L : Layout) (fits : Fits64 L) (b : List ℕ) (long : length b ≡ 64) (w : ℕ) (small : w < 2 ^ bitsOf L false) (full : ones w ≡ L .minis)
-    (range : (i : ℕ) → i < L .frontSlots → tagAt L false b i < tags L) where
+module _ (L : Layout) (fits : Fits64 L) (b : List ℕ) (long : length b ≡ 64) (crumbs : Bool) (w : ℕ) (small : w < 2 ^ bitsOf L crumbs)
+    (full : ones w ≡ L .minis) where
   abbrev mini : ℕ → ℕ
-  mini i = getD (slotMinis L false w) i 0
+  mini i = getD (slotMinis L crumbs w) i 0
 
   abbrev tag : ℕ → ℕ
-  tag i = tagAt L false b i
+  tag i = tagAt L crumbs b i
 
-  pair-order : (i : ℕ) → suc i < L .frontSlots → (tag (suc i) < tag i → mini i < mini (suc i)) → mini i * tags L + tag i ≤ mini (suc i) * tags L + tag (suc i)
-  pair-order i h rise = by-contra (mini i * tags L + tag i) (mini (suc i) * tags L + tag (suc i)) (λ o.
-      let flat : mini i ≤ mini (suc i) =
-      run-rise 0 (suc (L .minis)) i (slotMinis L false w) (slotMinis-run L false w small full)
-      (rw (length-slotMinis L false w small full) (omega (arith, bits-room L false))) in
-      let up : mini i < mini (suc i) = rise (omega (arith, mul-le-mul-right (tags L) flat)) in
-      omega (arith, mul-le-mul-right (tags L) up, range i (omega arith)))
+  abbrev whole : ℕ → ℕ
+  whole i = memberOf crumbs (mini i * tags L + tag i) (getD (slotCrumbs L crumbs b) i 0)
 
-  -- tags that fall do so at the end of a mini-bucket alone, and the last slot is not above the end
-  pub quick-order : ((i : ℕ) → suc i < L .frontSlots → tag (suc i) < tag i → mini i < mini (suc i))
-      → ((i : ℕ) → suc i ≡ L .frontSlots → mini i * tags L + tag i ≤ endOf L false) → inOrder L false w b ≡ true
+  pub members-order : ((i : ℕ) → suc i < slotsOf L crumbs → whole i ≤ whole (suc i))
+      → ((i : ℕ) → suc i ≡ slotsOf L crumbs → whole i ≤ endOf L crumbs) → inOrder L crumbs w b ≡ true
   unfolding inOrder
-  quick-order rise last =
-      let many = length-slotMembers L fits b long false w small full in
-      let at : (i : ℕ) → i < L .frontSlots → getD (slotMembers L false w b) i 0 ≡ mini i * tags L + tag i = λ i h.
-      slotMembers-at L fits b long false w small full i h in
-      ascending-pairs (slotMembers L false w b) (endOf L false)
-      (λ i h. let k : suc i < L .frontSlots = rw many at h in rw (at i (omega arith), at (suc i) k) (pair-order i k (rise i k)))
-      (λ i h. let k : suc i ≡ L .frontSlots = h ∙ many in rw (at i (omega arith)) (last i k))
+  members-order pairs last =
+      let many = length-slotMembers L fits b long crumbs w small full in
+      let at : (i : ℕ) → i < slotsOf L crumbs → getD (slotMembers L crumbs w b) i 0 ≡ whole i = slotMembers-at L fits b long crumbs w small full in
+      ascending-pairs (slotMembers L crumbs w b) (endOf L crumbs)
+      (λ i h. let k : suc i < slotsOf L crumbs = rw many at h in rw (at i (omega arith), at (suc i) k) (pairs i k))
+      (λ i h. let k : suc i ≡ slotsOf L crumbs = h ∙ many in rw (at i (omega arith)) (last i k))
+
+  module _ (range : (i : ℕ) → i < slotsOf L crumbs → tagAt L crumbs b i < tags L) where
+    pub key-flat : (i : ℕ) → suc i < slotsOf L crumbs → (tag (suc i) < tag i → mini i < mini (suc i))
+        → mini i * tags L + tag i ≤ mini (suc i) * tags L + tag (suc i)
+    key-flat i h rise = by-contra (mini i * tags L + tag i) (mini (suc i) * tags L + tag (suc i)) (λ o.
+        let up : mini i < mini (suc i) = rise (omega (arith, mul-le-mul-right (tags L) (mini-flat L crumbs w small full i h))) in
+        omega (arith, mul-le-mul-right (tags L) up, range i (omega arith)))
+
+    pub key-rises : (i : ℕ) → suc i < slotsOf L crumbs → (tag (suc i) ≤ tag i → mini i < mini (suc i))
+        → mini i * tags L + tag i < mini (suc i) * tags L + tag (suc i)
+    key-rises i h rise = by-contra (suc (mini i * tags L + tag i)) (mini (suc i) * tags L + tag (suc i)) (λ o.
+        let up : mini i < mini (suc i) = rise (omega (arith, mul-le-mul-right (tags L) (mini-flat L crumbs w small full i h))) in
+        omega (arith, mul-le-mul-right (tags L) up, range i (omega arith)))
+
+module _ (L : Layout) (fits : Fits64 L) (b : List ℕ) (long : length b ≡ 64) (w : ℕ) (small : w < 2 ^ bitsOf L false) (full : ones w ≡ L .minis)
+    (range : (i : ℕ) → i < L .frontSlots → tagAt L false b i < tags L) where
+  -- tags that fall do so at the end of a mini-bucket alone, and the last slot is not above the end
+  pub quick-order : ((i : ℕ) → suc i < L .frontSlots → tagAt L false b (suc i) < tagAt L false b i
+      → getD (slotMinis L false w) i 0 < getD (slotMinis L false w) (suc i) 0)
+      → ((i : ℕ) → suc i ≡ L .frontSlots → getD (slotMinis L false w) i 0 * tags L + tagAt L false b i ≤ endOf L false) → inOrder L false w b ≡ true
+  quick-order rise last = members-order L fits b long false w small full (λ i h. key-flat L fits b long false w small full range i h (rise i h)) last
 
 -- ---- where tags fall
 
@@ -169,7 +201,7 @@ leading-one (suc z) (suc k) e l h =
     let half : (2 ^ suc z + e) / 2 ≡ 2 ^ z + e / 2 = omega (arith, pow-succ' 2 z) in
     ap suc (leading-one z k (e / 2) (omega (arith, pow-succ' 2 z)) (rw (bit-suc (2 ^ suc z + e) k, half) at h))
 
-double-bit : (x i : ℕ) → 2 * x / 2 ^ suc i ≡ x / 2 ^ i
+pub double-bit : (x i : ℕ) → 2 * x / 2 ^ suc i ≡ x / 2 ^ i
 double-bit x i = let half : 2 * x / 2 ≡ x = omega arith in bit-suc (2 * x) i ∙ rw half
 
 ones-one : (x : ℕ) → onesIn 1 x ≡ x % 2
@@ -182,22 +214,31 @@ ones-all w small e =
     let all : ones w ≡ onesIn 64 w = let e : w % 2 ^ 64 ≡ w = omega arith in rw e at (ones-low 64 w) in
     all ∙ ones-split 63 1 w ∙ rw (ones-one (w / 2 ^ 63)) (omega (arith, zeros-ones 63 w))
 
-module _ (b : List ℕ) (long : length b ≡ 64) (bytes : Below 256 b) (w bits : ℕ) (small : w < 2 ^ 64)
-    (borders : bits ≡ bordersIn 63 w) (leads : bits / 2 ^ (27 + w / 2 ^ 63) ≡ 1) where
+module _ (w bits : ℕ) (small : w < 2 ^ 64) (borders : bits ≡ bordersIn 63 w) (leads : bits / 2 ^ (27 + w / 2 ^ 63) ≡ 1) where
   zeros-are : zerosIn 63 w ≡ 27 + w / 2 ^ 63
   zeros-are = leading-one (zerosIn 63 w) (27 + w / 2 ^ 63) (endsIn 63 w) (ends-lt 63 w) (rw borders at leads)
 
-  full-word : ones w ≡ layout1 .minis
+  pub full-word : ones w ≡ layout1 .minis
   full-word = ones-all w small zeros-are
 
   pub bits-lt : bits < 2 ^ 29
   bits-lt = omega (arith, borders, ends-lt 63 w, pow-mono {i = zerosIn 63 w} {j = 28} (omega (arith, zeros-are)))
 
-  range1 : (i : ℕ) → i < layout1 .frontSlots → tagAt layout1 false b i < tags layout1
+  -- a bit of a slot says that the zero stands right below a one
+  pub border-ends : (i : ℕ) → i < 27 → bits / 2 ^ i % 2 ≡ 1 → endsIn 63 w / 2 ^ i % 2 ≡ 1
+  border-ends i h there = sym (bit-below (endsIn 63 w) (zerosIn 63 w) i (omega (arith, zeros-are))) ∙ rw borders at there
+
+module _ (b : List ℕ) (long : length b ≡ 64) (bytes : Below 256 b) where
+  pub range1 : (i : ℕ) → i < layout1 .frontSlots → tagAt layout1 false b i < tags layout1
   range1 i h =
       rw (tag-in layout1 false b i h) at
       (below-at (tags layout1) i (tagsOf layout1 false b) (below-tagsIn layout1 (layout1 .frontSlots) b bytes (omega (arith, long)))
       (rw (length-tagsIn layout1 (layout1 .frontSlots) b) h))
+
+module _ (b : List ℕ) (long : length b ≡ 64) (bytes : Below 256 b) (w bits : ℕ) (small : w < 2 ^ 64)
+    (borders : bits ≡ bordersIn 63 w) (leads : bits / 2 ^ (27 + w / 2 ^ 63) ≡ 1) where
+  full : ones w ≡ layout1 .minis
+  full = full-word w bits small borders leads
 
   rises : (marks : ℕ) → marks ≡ 2 * marksOf (fallAt layout1 b) 1 0 27 → bitAnd marks (2 ^ 32 - 1 - 2 * bits) ≡ 0
       → (i : ℕ) → suc i < layout1 .frontSlots → tagAt layout1 false b (suc i) < tagAt layout1 false b i
@@ -206,34 +247,27 @@ module _ (b : List ℕ) (long : length b ≡ 64) (bytes : Below 256 b) (w bits :
       let f = fallAt layout1 b in
       let set : marks / 2 ^ suc i % 2 ≡ 1 = rw (e, double-bit (marksOf f 1 0 27) i) (mark-set f 1 0 27 i (omega arith) (rw (zero-add i) (falls-here layout1 b i falls))) in
       let there : bits / 2 ^ i % 2 ≡ 1 =
-      rw (double-bit bits i) at (covered 32 marks (2 * bits) (suc i) (omega (arith, marks-lt f 1 0 27)) (omega (arith, bits-lt)) none set) in
-      slots-rise layout1 false w small full-word 63 i
-      (sym (bit-below (endsIn 63 w) (zerosIn 63 w) i (omega (arith, zeros-are))) ∙ rw borders at there) (omega arith)
+      rw (double-bit bits i) at (covered 32 marks (2 * bits) (suc i) (omega (arith, marks-lt f 1 0 27))
+      (omega (arith, bits-lt w bits small borders leads)) none set) in
+      slots-rise layout1 false w small full 63 i (border-ends w bits small borders leads i (omega arith) there) (omega arith)
 
   -- the last slot is past the members and 0, or all slots are in use
-  last-mini : (i : ℕ) → i < layout1 .frontSlots → getD (slotMinis layout1 false w) i 0 ≤ layout1 .minis
-  last-mini i h =
-      let r = run-at 0 (suc (layout1 .minis)) i (slotMinis layout1 false w) (slotMinis-run layout1 false w small full-word)
-      (rw (length-slotMinis layout1 false w small full-word) h) in
-      omega (arith, r .1)
-
   last-used : w / 2 ^ 63 ≡ 1 → (i : ℕ) → i < layout1 .frontSlots → getD (slotMinis layout1 false w) i 0 < layout1 .minis
   last-used t i h =
-      let c = coded-minisIn 64 (layout1 .minis) w small full-word in
+      let c = coded-minisIn 64 (layout1 .minis) w small full in
       let n : ℕ = length (minisOf layout1 false w) in
       let many : 28 ≤ n = by-contra 28 n (λ l. omega (arith, coded-lt (c .0), pow-mono {i = 36 + n} {j = 63} (omega arith))) in
-      rw (slotMinis-used layout1 false w small full-word i (omega arith))
-      (run-at 0 (layout1 .minis) i (minisOf layout1 false w) (minisIn-run 64 (layout1 .minis) w small full-word) (omega arith) .1)
+      mini-used layout1 false w small full i (omega arith)
 
   -- what the quick test finds
   pub passed : (marks : ℕ) → marks ≡ 2 * marksOf (fallAt layout1 b) 1 0 27 → bitAnd marks (2 ^ 32 - 1 - 2 * bits) ≡ 0
-      → (w / 2 ^ 63 ≡ 1) ⊎ (tagAt layout1 false b 27 ≡ 0) → Ordered layout1 w b
+      → (w / 2 ^ 63 ≡ 1) ⊎ (tagAt layout1 false b 27 ≡ 0) → Ordered layout1 false w b
   passed marks e none last = record {
-    full = full-word;
-    order = quick-order layout1 fits1 b long w small full-word range1 (rises marks e none) (λ i h.
+    full = full;
+    order = quick-order layout1 fits1 b long w small full (range1 b long bytes) (rises marks e none) (λ i h.
         let k : i ≡ 27 = omega arith in
         ⊎-elim
-        (λ t. omega (arith, mul-le-mul-right (tags layout1) (last-used t i (omega arith)), range1 i (omega arith)))
-        (λ z. omega (arith, mul-le-mul-right (tags layout1) (last-mini i (omega arith)), ap (tagAt layout1 false b) k, z))
+        (λ t. omega (arith, mul-le-mul-right (tags layout1) (last-used t i (omega arith)), range1 b long bytes i (omega arith)))
+        (λ z. omega (arith, mul-le-mul-right (tags layout1) (mini-last layout1 false w small full i (omega arith)), ap (tagAt layout1 false b) k, z))
         last);
   }

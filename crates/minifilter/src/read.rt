@@ -2,7 +2,7 @@
 
 use crate::Order;
 use crate::Reading;
-use crate::quick::passes_front;
+use crate::quick::passes;
 use crate::slots;
 use crumbmap::Backyard;
 use crumbmap::layout::BACK_SLOTS;
@@ -15,10 +15,12 @@ use words::word;
 ghost use mathlib.Core.Path.{_≡_};
 ghost use Prim.Native.Nat.{_+_, _*_, _%_, _<_, _≤_};
 ghost use mathlib.Core.Bool.{true};
+ghost use mathlib.Core.Logic.{_⊎_};
 ghost use lib.ListN.{length, take, getD};
 ghost use lib.Count.{ones};
 ghost use Rattle.crumbmap.specs.Layouts.{layout1, tags, keys};
 ghost use Rattle.buckets.specs.Buckets.{frontMembers, backMembers};
+ghost use Rattle.minifilter.specs.declared.Reading.the-variants as R;
 ghost use Rattle.minifilter.specs.Steps.Readings.{readingOf, BackAsked};
 ghost use Rattle.minifilter.specs.Steps.Slots.{slotsOf, slotCrumbs, memberOf, endOf, tagAt, slotMembers, inOrder, orderOf, slotList, marked};
 
@@ -36,7 +38,7 @@ pub fn sound_front(b: &[u8]) -> Reading
     ensures { λ r. ⌜ r ≡ readingOf 0 (frontMembers layout1 (now (b .entry))) ⌝ }
 {
     let w = word::word_of(b);
-    if passes_front(b, w) {
+    if passes(b, w, false) {
         return Reading::Members(word::occupancy(w), 0);
     }
     read_front(b, 0)
@@ -56,6 +58,23 @@ pub fn read_back(b: &[u8], size: usize, bucket: Backyard, member: u32) -> Readin
     let marks = valid::valid_crumbs(size, bucket);
     if crumbs_marked(b, members, marks) {
         return Reading::Members(members, below);
+    }
+    Reading::Unsound
+}
+
+// A backyard bucket's member count alone, where the quick test tells it; `Unsound` says nothing. The caller has the reader behind it: another
+// call of it here would keep it from becoming part of `read_back_at`, which a full insert feels.
+pub fn quick_back(b: &[u8], size: usize, bucket: Backyard) -> Reading
+    requires { ⌜ BackAsked layout1 (now b) size (bucket .0) 0 ⌝ }
+    ensures { λ r. ⌜ (r ≡ R.Unsound) ⊎ (r ≡ readingOf 0 (backMembers layout1 size (bucket .0) (now (b .entry)))) ⌝ }
+{
+    let w = word::word_of(b);
+    if passes(b, w, true) {
+        let members = word::occupancy(w);
+        let marks = valid::valid_crumbs(size, bucket);
+        if crumbs_marked(b, members, marks) {
+            return Reading::Members(members, 0);
+        }
     }
     Reading::Unsound
 }

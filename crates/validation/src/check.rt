@@ -10,7 +10,7 @@ use crumbmap::Backyard;
 use crumbmap::Front;
 use crumbmap::layout::FRONT_SLOTS;
 use crumbmap::map::home_of;
-use image::back::read_back_at;
+use image::back::sound_back_at;
 use image::front::sound_front_at;
 use image::place::back_bucket;
 use image::place::bucket as bucket_of;
@@ -113,7 +113,7 @@ fn count_backs(image: &[u8], size: usize) -> Tally
     let mut members = 0;
     let mut j = 0;
     while j < end {
-        let Reading::Members(n, _) = read_back_at(image, size, Backyard(j), 0) else {
+        let Reading::Members(n, _) = sound_back_at(image, size, Backyard(j)) else {
             return Tally::Unsound(table_of(size, Backyard(j)));
         };
         members += n;

@@ -2,7 +2,7 @@
 -- past its members read as one more mini-bucket, so "members ascend" and "unused bytes and halves are 0" are one statement: the slots ascend,
 -- and none is above that mini-bucket, tag 0, crumb 0.
 use mathlib.Core.Path.{_≡_}
-use Prim.Native.Nat.{ℕ, _+_, _*_, _-_, _/_, _%_, _^_}
+use Prim.Native.Nat.{ℕ, _+_, _*_, _-_, _/_, _%_, _^_, _≤_}
 use mathlib.Core.Bool.{Bool, true, false, _&&_}
 use mathlib.Core.List.{List, [], _∷_, _++_}
 use mathlib.Core.Option.{Option, some, bind}
@@ -12,6 +12,7 @@ use lib.Dec.{eqb}
 use Rattle.multiset.specs.Multisets.{ascending, allZero, below}
 use Rattle.multiset.specs.Digits.{value, joined}
 use Rattle.crumbmap.specs.Layouts.{Layout, tags, keys, wordBytes}
+use Rattle.borders.specs.Steps.Borders.{bordersIn}
 use Rattle.buckets.specs.Words.{minisIn}
 use Rattle.buckets.specs.Buckets.{given, slotKeys, wordIn, tagsIn, crumbsIn}
 use Rattle.minifilter.specs.declared.Order.{Order}
@@ -95,10 +96,26 @@ module _ (L : Layout) (crumbs : Bool) where
       let ys : List ℕ = withCrumbs crumbs xs cs in
       given (ascending ys && allZero (drop (length xs) (take (slotsOf L crumbs) cs))) (some ys))
 
--- a word with as many ones as there are mini-buckets, over slots of a front bucket that are in order
-pub record Ordered (L : Layout) (w : ℕ) (b : List ℕ) : Type 0 where
+-- a word with as many ones as there are mini-buckets, over slots that are in order
+pub record Ordered (L : Layout) (crumbs : Bool) (w : ℕ) (b : List ℕ) : Type 0 where
   pub full : ones w ≡ L .minis
-  pub order : inOrder L false w b ≡ true
+  pub order : inOrder L crumbs w b ≡ true
+
+-- the same of a backyard bucket whose slots hold its members, with nothing behind the last slot's crumb
+pub record BackOrdered (L : Layout) (w : ℕ) (b : List ℕ) : Type 0 where
+  pub slots : Ordered L true w b
+  pub room : length (minisOf L true w) ≤ L .backSlots
+  pub unused : allZero (drop (L .backSlots) (crumbsIn L b)) ≡ true
+
+-- what the quick test says of a bucket of either kind
+abbrev pub Passed : Layout → Bool → ℕ → List ℕ → Type 0
+Passed L true w b = BackOrdered L w b
+Passed L false w b = Ordered L false w b
+
+-- layout 1: the borders of a word with 28 zeros, the last place's among them
+pub record Bordered1 (w bits : ℕ) : Type 0 where
+  pub borders : bits ≡ bordersIn 63 w
+  pub leads : bits / 2 ^ (27 + w / 2 ^ 63) ≡ 1
 
 -- the crumb of one slot
 abbrev pub crumbAt : Layout → List ℕ → ℕ → ℕ

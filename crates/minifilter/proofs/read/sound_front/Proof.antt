@@ -13,7 +13,7 @@ use Rattle.minifilter.proofs.read.sound_front.Statement.{statement}
 use Rattle.minifilter.proofs.read.sound_front.Tie as tie
 
 occupancy-requires : tie.Need-occupancy-requires
-occupancy-requires c κs = c .before .passes-front .ensures (c .if1 .taken) .full
+occupancy-requires c κs = c .before .passes .ensures (c .if1 .taken) .full
 
 returns : tie.Need-returns
 returns c =
@@ -22,7 +22,7 @@ returns c =
     let s = read .before .before in
     let b = s .args .b .now in
     let w = read .word-of .result in
-    let o : Ordered layout1 w b = t .before .passes-front .ensures (t .if1 .taken) in
+    let o : Ordered layout1 false w b = t .before .passes .ensures (t .if1 .taken) in
     sym (reading-front layout1 0 b (s .pre) refl
     ∙ reading-slots layout1 fits1 b (s .pre) 0 w false (read .word-of .ensures) (omega (arith, read .word-of .ok)) (o .full)
     (omega (arith, c .occupancy .ensures .0, c .occupancy .ensures .1)) (below-bytes b (read .before .shared-slice-known .given)) (omega arith)

@@ -25,13 +25,13 @@ abbrev μ-loop : tie.MeasureT-loop
 μ-loop image size end members₀ j₀ members j = end - j
 
 -- the points of the walk: bucket j is sound, or not; it is read; its turn; the start
-abbrev sound : tie.After-n Inv-loop μ-loop → tie.After-read-back-at Inv-loop μ-loop
+abbrev sound : tie.After-n Inv-loop μ-loop → tie.After-sound-back-at Inv-loop μ-loop
 sound c = c .before .before
 
-abbrev unsound : tie.After-enum-told Inv-loop μ-loop → tie.After-read-back-at Inv-loop μ-loop
+abbrev unsound : tie.After-enum-told Inv-loop μ-loop → tie.After-sound-back-at Inv-loop μ-loop
 unsound c = c .before .before
 
-abbrev turn : tie.After-read-back-at Inv-loop μ-loop → tie.In-loop Inv-loop μ-loop
+abbrev turn : tie.After-sound-back-at Inv-loop μ-loop → tie.In-loop Inv-loop μ-loop
 turn c = c .before
 
 abbrev start : tie.In-loop Inv-loop μ-loop → tie.Start Inv-loop μ-loop
@@ -54,7 +54,7 @@ told : (c : tie.After-n Inv-loop μ-loop) →
 told c =
     let i = turn (sound c) in
     let a = start i .args in
-    let t = back-told layout1 (a .size) (i .before .loop .j) 0 (a .image .now) (sound c .read-back-at .ensures) (c .n .given .1) in
+    let t = back-told layout1 (a .size) (i .before .loop .j) 0 (a .image .now) (sound c .sound-back-at .ensures) (c .n .given .1) in
     (t .0, t .1)
 
 loop-holds : tie.Need-loop-holds Inv-loop μ-loop
@@ -62,8 +62,8 @@ loop-holds c =
     let a = c .before .args in
     (omega arith, rw sub-zero, counts-none (λ (e : ℕ). backAt layout1 (a .size) e (a .image .now)) 22)
 
-read-back-at-requires : tie.Need-read-back-at-requires Inv-loop μ-loop
-read-back-at-requires c κs = (within c, omega arith)
+sound-back-at-requires : tie.Need-sound-back-at-requires Inv-loop μ-loop
+sound-back-at-requires c κs = within c
 
 table-of-requires : tie.Need-table-of-requires Inv-loop μ-loop
 table-of-requires c κs = let w = within (turn (unsound c)) in (w .small, w .bucket)
@@ -76,7 +76,7 @@ returns c =
     let l = i .before .loop in
     rw (c .table-of .ensures)
     (back-stop layout1 (a .size) (backyards (a .size)) (l .j) (a .image .now) (l .inv .1) (inside i)
-    (back-unsound layout1 (a .size) (l .j) 0 (a .image .now) (unsound u .read-back-at .ensures) (u .enum-told .given .1)))
+    (back-unsound layout1 (a .size) (l .j) 0 (a .image .now) (unsound u .sound-back-at .ensures) (u .enum-told .given .1)))
 
 add-members : tie.Need-add-members Inv-loop μ-loop
 add-members c =
@@ -113,7 +113,7 @@ count-backs-spec =
     μ-loop
     (λ c. search needs)
     loop-holds
-    read-back-at-requires
+    sound-back-at-requires
     (λ c. search needs)
     (λ c. search needs)
     table-of-requires
