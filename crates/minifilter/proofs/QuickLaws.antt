@@ -6,7 +6,7 @@ use Prim.Native.Nat.{ℕ, zero, suc, _+_, _*_, _-_, _/_, _%_, _^_, _≤_, _<_}
 use mathlib.Core.Bool.{Bool, true, false}
 use mathlib.Core.Logic.{_⊎_, ⊎-elim}
 use mathlib.Core.List.{List, [], _∷_, _++_}
-use native.Mathlib.Nat.{zero-add, pow-succ', mul-le-mul-right, div-div-eq-div-mul, div-one, zero-div}
+use native.Mathlib.Nat.{zero-add, pow-succ', mul-le-mul-right, div-one, zero-div}
 use native.Mathlib.Omega.{arith, by-contra}
 use lib.ListN.{length, getD, replicate}
 use lib.Pow.{pow-pos, pow-mono}
@@ -21,6 +21,7 @@ use Rattle.minifilter.specs.Steps.Slots.{slotsOf, slotCrumbs, memberOf, 
 use Rattle.minifilter.specs.Steps.Marks.{marksOf, fallAt}
 use Rattle.buckets.proofs.WordLaws.{Run, Coded, done, member, end, coded-run, coded-lt, coded-minisIn, minisIn-run, run-at}
 use Rattle.multiset.proofs.MultisetLaws.{below-at}
+use Rattle.buckets.proofs.BitLaws.{shr-suc}
 use Rattle.buckets.proofs.SlotBytes.{below-tagsIn, length-tagsIn}
 use Rattle.buckets.proofs.BucketLaws.{fits1}
 use Rattle.words.proofs.SelectLaws.{ones-low}
@@ -30,9 +31,6 @@ use Rattle.minifilter.proofs.MarkLaws.{marks-lt, mark-set}
 use Rattle.minifilter.proofs.PassLaws.{tag-in, bits-room, length-slotMinis, slotMinis-run, slotMinis-used, length-slotMembers, slotMembers-at}
 
 -- ---- a bit of a number
-
-pub bit-suc : (x i : ℕ) → x / 2 ^ suc i ≡ x / 2 / 2 ^ i
-bit-suc x i = rw (pow-succ' 2 i) (sym (div-div-eq-div-mul x 2 (2 ^ i)))
 
 -- where x and what y lacks have no bit in common, y has every bit that x has
 pub covered : (k x y i : ℕ) → x < 2 ^ k → y < 2 ^ k → bitAnd x (2 ^ k - 1 - y) ≡ 0 → x / 2 ^ i % 2 ≡ 1 → y / 2 ^ i % 2 ≡ 1
@@ -44,8 +42,8 @@ covered (suc k) x y (suc i) h l e b =
     let n : ℕ = 2 ^ suc k - 1 - y in
     let half : n / 2 ≡ 2 ^ k - 1 - y / 2 = omega (arith, pow-succ' 2 k) in
     let none : bitAnd (x / 2) (n / 2) ≡ 0 = omega (arith, e, and-step x n) in
-    rw (bit-suc y i)
-    (covered k (x / 2) (y / 2) i (omega (arith, pow-succ' 2 k)) (omega (arith, pow-succ' 2 k)) (rw half at none) (rw (bit-suc x i) at b))
+    rw (shr-suc i y)
+    (covered k (x / 2) (y / 2) i (omega (arith, pow-succ' 2 k)) (omega (arith, pow-succ' 2 k)) (rw half at none) (rw (shr-suc i x) at b))
 
 -- a higher power of two changes no bit below it
 pub bit-below : (x k i : ℕ) → i < k → (2 ^ k + x) / 2 ^ i % 2 ≡ x / 2 ^ i % 2
@@ -53,7 +51,7 @@ bit-below x zero i h = absurd (omega arith)
 bit-below x (suc k) zero h = omega (arith, div-one x, div-one (2 ^ suc k + x), pow-succ' 2 k)
 bit-below x (suc k) (suc i) h =
     let half : (2 ^ suc k + x) / 2 ≡ 2 ^ k + x / 2 = omega (arith, pow-succ' 2 k) in
-    rw (bit-suc (2 ^ suc k + x) i, bit-suc x i, half) (bit-below (x / 2) k i (omega arith))
+    rw (shr-suc i (2 ^ suc k + x), shr-suc i x, half) (bit-below (x / 2) k i (omega arith))
 
 -- ---- a zero right below a one stands over an earlier mini-bucket than the next zero
 
@@ -83,7 +81,7 @@ ends-rise (member {n = n} {m = m} {ms = ms} {w = w} c) p (suc d) (suc i) b h =
     let even : 2 * w % 2 ≡ 0 = omega arith in
     let half : 2 * w / 2 ≡ w = omega arith in
     let rest : (w % 2 + 2 * endsIn d w) / 2 ≡ endsIn d w = omega arith in
-    ends-rise c p d i (rw (bit-suc (w % 2 + 2 * endsIn d w) i, rest) at (rw (even, half) at b)) (omega arith)
+    ends-rise c p d i (rw (shr-suc i (w % 2 + 2 * endsIn d w), rest) at (rw (even, half) at b)) (omega arith)
 ends-rise (end c) p zero i b h = absurd (omega (arith, zero-div (2 ^ i)))
 ends-rise (end {n = n} {m = m} {ms = ms} {w = w} c) p (suc d) i b h =
     let odd : (1 + 2 * w) % 2 ≡ 1 = omega arith in
@@ -196,13 +194,13 @@ leading-one zero zero e l h = refl
 leading-one (suc z) zero e l h = absurd (omega (arith, div-one (2 ^ suc z + e), pow-succ' 2 z, pow-pos z))
 leading-one zero (suc k) e l h =
     let one : (1 + e) / 2 ≡ 0 = omega arith in
-    absurd (omega (arith, rw (bit-suc (1 + e) k, one) at h, zero-div (2 ^ k)))
+    absurd (omega (arith, rw (shr-suc k (1 + e), one) at h, zero-div (2 ^ k)))
 leading-one (suc z) (suc k) e l h =
     let half : (2 ^ suc z + e) / 2 ≡ 2 ^ z + e / 2 = omega (arith, pow-succ' 2 z) in
-    ap suc (leading-one z k (e / 2) (omega (arith, pow-succ' 2 z)) (rw (bit-suc (2 ^ suc z + e) k, half) at h))
+    ap suc (leading-one z k (e / 2) (omega (arith, pow-succ' 2 z)) (rw (shr-suc k (2 ^ suc z + e), half) at h))
 
 pub double-bit : (x i : ℕ) → 2 * x / 2 ^ suc i ≡ x / 2 ^ i
-double-bit x i = let half : 2 * x / 2 ≡ x = omega arith in bit-suc (2 * x) i ∙ rw half
+double-bit x i = let half : 2 * x / 2 ≡ x = omega arith in shr-suc i (2 * x) ∙ rw half
 
 ones-one : (x : ℕ) → onesIn 1 x ≡ x % 2
 unfolding onesIn

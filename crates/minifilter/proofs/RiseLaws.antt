@@ -2,7 +2,7 @@
 -- the slots are in order whatever the members' crumbs. Main results: `rising-order`, `crumbs-zero`. The last section is of layout 1.
 use mathlib.Core.Path.{_≡_, refl, sym, _∙_}
 use Prim.Native.Nat.{ℕ, zero, suc, _+_, _*_, _-_, _/_, _%_, _^_, _≤_, _<_, max}
-use mathlib.Core.Bool.{Bool, true, false, _&&_, false≢true}
+use mathlib.Core.Bool.{true, false, _&&_}
 use mathlib.Core.Logic.{_⊎_, inl, inr, ⊎-elim}
 use mathlib.Core.List.{List, [], _∷_}
 use native.Mathlib.Nat.{le-refl, zero-add, pow-succ', mul-le-mul-right, div-div-eq-div-mul, div-one, div-eq-of-lt}
@@ -23,12 +23,14 @@ use Rattle.minifilter.specs.Steps.Slots.{bitsOf, tagAt, crumbAt, minisOf
 use Rattle.minifilter.specs.Steps.Marks.{marksOf, riseAt, Rising}
 use Rattle.borders.specs.Steps.Borders.{bordersIn}
 use Rattle.multiset.proofs.MultisetLaws.{below-take, below-drop}
+use Rattle.crumbmap.proofs.TestLaws.{both-true}
 use Rattle.crumbmap.proofs.MarkLaws.{ones-in}
+use Rattle.buckets.proofs.BitLaws.{shr-suc}
 use Rattle.buckets.proofs.PieceLaws.{allZero-split, spread-take, spread-drop}
 use Rattle.buckets.proofs.BucketLaws.{fits1}
 use Rattle.minifilter.proofs.HeldLaws.{crumb-lt}
 use Rattle.minifilter.proofs.MarkLaws.{mark-set, mark-told}
-use Rattle.minifilter.proofs.QuickLaws.{bit-suc, double-bit, mini-flat, mini-last, mini-used, members-order, key-rises, slots-rise, full-word, border-ends, range1}
+use Rattle.minifilter.proofs.QuickLaws.{double-bit, mini-flat, mini-last, mini-used, members-order, key-rises, slots-rise, full-word, border-ends, range1}
 
 -- ---- bits of a number
 
@@ -44,23 +46,19 @@ or-bit x y i = rw (or-shr x y i) (omega (arith, or-step (x / 2 ^ i) (y / 2 ^ i))
 
 -- 2 ^ (k + 1) − 2 has the bits from 1 to k alone
 bits-up : (k x i : ℕ) → x + 2 ≡ 2 ^ suc k → i < k → x / 2 ^ suc i % 2 ≡ 1
-bits-up k x i e h = let z : x / 2 ≡ 2 ^ k - 1 = omega (arith, e, pow-succ' 2 k) in rw (bit-suc x i, z) (ones-in k i h)
+bits-up k x i e h = let z : x / 2 ≡ 2 ^ k - 1 = omega (arith, e, pow-succ' 2 k) in rw (shr-suc i x, z) (ones-in k i h)
 
 bits-past : (k x i : ℕ) → x + 2 ≡ 2 ^ suc k → k ≤ i → x / 2 ^ suc i ≡ 0
 bits-past k x i e h = div-eq-of-lt (omega (arith, e, pow-mono {i = suc k} {j = suc i} (omega arith)))
 
 -- ---- zeros of a list
 
-and-split : (x y : Bool) → x && y ≡ true → (x ≡ true) × (y ≡ true)
-and-split true y e = (refl, e)
-and-split false y e = absurd (false≢true e)
-
 -- past n all are 0
 zero-at : (n i : ℕ) (cs : List ℕ) → allZero (drop n cs) ≡ true → n ≤ i → getD cs i 0 ≡ 0
 unfolding allZero
 zero-at n i [] e l = refl
-zero-at zero zero (c ∷ cs) e l = eqb-true c 0 (and-split (eqb c 0) (allZero cs) e .0)
-zero-at zero (suc i) (c ∷ cs) e l = zero-at zero i cs (and-split (eqb c 0) (allZero cs) e .1) (omega arith)
+zero-at zero zero (c ∷ cs) e l = eqb-true c 0 (both-true (eqb c 0) (allZero cs) e .0)
+zero-at zero (suc i) (c ∷ cs) e l = zero-at zero i cs (both-true (eqb c 0) (allZero cs) e .1) (omega arith)
 zero-at (suc n) zero (c ∷ cs) e l = absurd (omega arith)
 zero-at (suc n) (suc i) (c ∷ cs) e l = zero-at n i cs e (omega arith)
 
@@ -211,7 +209,7 @@ module _ (b : List ℕ) (long : length b ≡ 64) (bytes : Below 256 b) where
         let rise : (i : ℕ) → suc i < 22 → i < length (minisOf layout1 true w) → tagAt layout1 true b (suc i) ≤ tagAt layout1 true b i
         → getD (slotMinis layout1 true w) i 0 < getD (slotMinis layout1 true w) (suc i) 0 = λ i h l s.
         slots-rise layout1 true w small full 63 i (border-ends w bits small borders leads i (omega arith) (r .rise i h (omega arith) s)) (omega arith) in
-        let split = and-split (allZero (drop n (take 22 cs))) (allZero (drop 22 cs)) (sym (allZero-split n 22 cs room) ∙ zeros) in
+        let split = both-true (allZero (drop n (take 22 cs))) (allZero (drop 22 cs)) (sym (allZero-split n 22 cs room) ∙ zeros) in
         record {
           slots = record {
             full = full;

@@ -1,4 +1,4 @@
-// One 64-byte bucket: its slots, and the reader.
+// One 64-byte bucket: its slots, the reader, and the quick test before it.
 
 mod quick;
 pub mod read;

@@ -139,8 +139,7 @@ fn marks_of(b: &[u8], slots: usize, tag: u32) -> u32
     marks
 }
 
-// The lowest slot of a key in a front bucket that the reader gave no slot of, 28 where it is absent: the first slot with its tag, if that is one of its
-// mini-bucket's. Tags of other mini-buckets seldom are the same; then select finds the slot. It is a number alone, which a register hands over.
+// The lowest slot of a key in a front bucket, 28 where it is absent: the first slot with its tag, if that is one of its mini-bucket's. Tags of other mini-buckets seldom are the same; then select finds the slot. It is a number alone, which a register hands over.
 fn slot_front(b: &[u8], key: u32) -> usize
     requires { ⌜ SoundFront layout1 (now b) × (key < keys layout1) ⌝ }
     ensures { λ r. ⌜ r ≡ slotElse (layout1 .frontSlots) (foundIn key (frontList layout1 (now (b .entry)))) ⌝ }
