@@ -8,7 +8,7 @@ ghost use Rattle.answers.specs.Pairs.{said_of, refusal_of, itself};
 use crate::{ChangeResult, Refusal};
 
 // The number of an answer, 0 when accepted, and its value; a refusal's value is its table number, else 0.
-#[derive(Drop)]
+#[derive(Clone, Copy)]
 pub struct Said {
     pub number: u64,
     pub value: u64,

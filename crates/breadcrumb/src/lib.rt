@@ -1,6 +1,8 @@
 // The catalogue: one lent image, and the calls on it. Each gives the documents' answer, or why it is refused, and every byte that it was lent is
 // the plain machine's after it.
 
+#![tactic(auto)]
+
 ghost use Rattle.std.specs.Prelude.{◌≡◌};
 ghost use Rattle.crumbmap.specs.Layouts.{known};
 ghost use Rattle.form.specs.Calls.{ask_of, count_of, check_of, tail_of};

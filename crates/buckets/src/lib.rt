@@ -1,1 +1,3 @@
 // No code: definitions and laws of words and buckets.
+
+#![tactic(auto)]

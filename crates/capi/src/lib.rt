@@ -1,5 +1,7 @@
 // The calls for C. Each gives one number, its answer packed: number × 2^56 + value, number 0 when accepted.
 
+#![tactic(auto)]
+
 ghost use Rattle.std.specs.Prelude.{◌≡◌, length};
 ghost use Rattle.crumbmap.specs.Layouts.{known};
 ghost use Rattle.machine.specs.Calls.{written, image_of, output_of};

@@ -1,5 +1,7 @@
 // Delete: one copy less of a hash's fingerprint. What it does is decided before its first write.
 
+#![tactic(auto)]
+
 pub mod behind;
 pub mod delete;
 pub mod plan;
@@ -8,7 +10,7 @@ use answers::Refusal;
 use crumbmap::Overflow;
 
 // A member that leaves a backyard bucket: the bucket and the crumb that it carries there, its slot, and its key.
-#[derive(Drop)]
+#[derive(Clone, Copy)]
 pub struct Departure {
     pub way: Overflow,
     pub slot: usize,
@@ -16,14 +18,14 @@ pub struct Departure {
 }
 
 // The member that leaves First(f) or Second(f), or that none does.
-#[derive(Drop)]
+#[derive(Clone, Copy)]
 pub enum Leaving {
     Member(Departure),
     Nothing,
 }
 
 // What a delete does: it is refused, the copy at a slot in front leaves, a member from behind takes its room, or a copy behind leaves.
-#[derive(Drop)]
+#[derive(Clone, Copy)]
 pub enum DeletePlan {
     Refused(Refusal),
     Leaves(usize),
@@ -32,7 +34,7 @@ pub enum DeletePlan {
 }
 
 // The copy at `slot` of a full front bucket leaves, and a member from behind takes its room, at `to` once it has left.
-#[derive(Drop)]
+#[derive(Clone, Copy)]
 pub struct Refill {
     pub slot: usize,
     pub to: usize,

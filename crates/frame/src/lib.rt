@@ -1,10 +1,12 @@
 // One frame of the small program: a line in, the lines to print out, on slices.
 
+#![tactic(auto)]
+
 pub mod parse;
 pub mod perform;
 
 // "Operation (01 insert, 02 delete, 03 ask, 04 count, 05 list), then the hash (zeros for 05)"; any other line is malformed.
-#[derive(Drop)]
+#[derive(Clone, Copy)]
 pub enum Frame {
     Insert(u64),
     Delete(u64),
@@ -15,7 +17,7 @@ pub enum Frame {
 }
 
 // How many bytes of text stand in the output, or that image or output have not the length they need.
-#[derive(Drop)]
+#[derive(Clone, Copy)]
 pub enum Printed {
     Text(usize),
     Unfit,

@@ -1,5 +1,7 @@
 // The small program: it reads standard input and writes standard output. Lines, frames and text are the crate `lines`'.
 
+#![tactic(auto)]
+
 ghost use Rattle.std.specs.Prelude.{◌≡◌, ◌≤◌, length, take};
 ghost use Rattle.lines.specs.Inputs.{start_image};
 ghost use Rattle.lines.specs.Steps.Turns.{Room};

@@ -1,6 +1,8 @@
 // A row of asks on plain numbers, entry by entry: what goes from one to the next says what of their group's buckets has been read, so that
 // neighbours with one front bucket share their reads.
 
+#![tactic(auto)]
+
 pub mod fetch;
 pub mod share;
 pub mod tell;
@@ -12,7 +14,7 @@ use answers::Entry;
 // answers, 3 where it is refused; `number` and `table` are the refusal's, 0 where there is none, and a bad tail's 11 stands from the beginning. Of the
 // group at `front`, the front bucket, b0 and b1, `reads` are read, of all groups so far `total`; keys below `bound` need no more of them. While
 // fetching, `total` has the bytes that were loaded. The fields are in an order that leaves no gap between them.
-#[derive(Drop)]
+#[derive(Clone, Copy)]
 pub struct State {
     pub phase: u32,
     pub number: u32,
@@ -25,14 +27,14 @@ pub struct State {
 }
 
 // What an entry leaves: the next state, and the entry to stand in its place.
-#[derive(Drop)]
+#[derive(Clone, Copy)]
 pub struct Turned {
     pub state: State,
     pub entry: Entry,
 }
 
 // How many of a group's buckets are read once a key is asked for, or the table number of one that is unsound.
-#[derive(Drop)]
+#[derive(Clone, Copy)]
 pub enum Shared {
     Read(u32),
     Unsound(usize),

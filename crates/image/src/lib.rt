@@ -1,5 +1,7 @@
 // One lent image: where its buckets stand, and one bucket read, searched and written in place.
 
+#![tactic(auto)]
+
 pub mod back;
 pub mod copy;
 pub mod fresh;
@@ -9,7 +11,7 @@ pub mod place;
 use crumbmap::{Front, Overflow};
 
 // What a hash names in an image: the image's size B, the front bucket f and the key of mini-bucket and tag.
-#[derive(Drop)]
+#[derive(Clone, Copy)]
 pub struct Target {
     pub size: usize,
     pub front: Front,
@@ -17,7 +19,7 @@ pub struct Target {
 }
 
 // An image's size B, or that no image has this length.
-#[derive(Drop)]
+#[derive(Clone, Copy)]
 pub enum Size {
     Buckets(usize),
     Wrong,
@@ -25,7 +27,7 @@ pub enum Size {
 
 // A backyard bucket of a front bucket that was read and is sound: where it is and the crumb that is kept there, how many members it holds, and
 // how many of them are below the key that is sought.
-#[derive(Drop)]
+#[derive(Clone, Copy)]
 pub struct BackReading {
     pub way: Overflow,
     pub members: usize,
@@ -33,7 +35,7 @@ pub struct BackReading {
 }
 
 // What reading both backyard buckets of a front bucket finds, or the table number of the first that is unsound.
-#[derive(Drop)]
+#[derive(Clone, Copy)]
 pub enum BackyardReading {
     Sound(BackReading, BackReading),
     Unsound(usize),

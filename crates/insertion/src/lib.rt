@@ -1,5 +1,7 @@
 // Insert: one more copy of a hash's fingerprint. What it does is decided before its first write.
 
+#![tactic(auto)]
+
 pub mod insert;
 pub mod plan;
 pub mod taker;
@@ -8,7 +10,7 @@ use answers::Refusal;
 use crumbmap::Overflow;
 
 // What an insert does: it is refused, the key joins the front bucket at a slot, or an overflow leaves it.
-#[derive(Drop)]
+#[derive(Clone, Copy)]
 pub enum InsertPlan {
     Refused(Refusal),
     Joins(usize),
@@ -16,7 +18,7 @@ pub enum InsertPlan {
 }
 
 // The largest of a full front bucket and the key, `over`, goes to slot `to` of a backyard bucket; the key's own slot in front is `slot`.
-#[derive(Drop)]
+#[derive(Clone, Copy)]
 pub struct Spilling {
     pub over: u32,
     pub slot: usize,
@@ -25,7 +27,7 @@ pub struct Spilling {
 }
 
 // Which backyard bucket takes an overflow.
-#[derive(Drop)]
+#[derive(Clone, Copy)]
 pub enum Taking {
     First,
     Second,

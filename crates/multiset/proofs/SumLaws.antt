@@ -79,11 +79,13 @@ sum-without : (N : ℕ → ℕ) (p from n : ℕ) → from ≤ p → p < from + n
 sum-without N p from zero l h = absurd (omega arith)
 sum-without N p from (suc n) l h = elim (ℕ_discrete from p) [
   | yes e ↦
-      rw (← e) (omega (
+      let here : without p N from ≡ 0 = rw e (without-here p N) in
+      omega (
         arith,
-        without-here from N,
-        sum_alike N (without from N) (suc from) n (λ i a b. sym (without_other from N i (λ q. omega arith))),
-      ))
+        ap N e,
+        here,
+        sum_alike N (without p N) (suc from) n (λ i a b. sym (without_other p N i (λ q. omega arith))),
+      )
   | no d ↦ omega (arith, without_other p N from d, sum-without N p (suc from) n (omega arith) (omega arith))
 ]
 

@@ -1,1 +1,3 @@
 // Multisets and digits: definitions and laws alone (specs/, proofs/); no code.
+
+#![tactic(auto)]

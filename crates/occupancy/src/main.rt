@@ -1,5 +1,7 @@
 // Prints the occupancy pages of an image: it reads standard input and writes standard output.
 
+#![tactic(auto)]
+
 use answers::pairs::refused;
 use answers::{Outcome, Refusal};
 use breadcrumb::occupancy;

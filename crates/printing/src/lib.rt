@@ -1,5 +1,7 @@
 // The occupancy page: how full front buckets are, as lines of text.
 
+#![tactic(auto)]
+
 pub mod decimal;
 pub mod line;
 pub mod page;

@@ -1,6 +1,8 @@
 // A row of asks, lent as a slice of entries. It is swept three times: its front buckets are fetched, then it is tested, then each entry receives its
 // answer, unless the row is refused. What is done with an entry is the crate grouping's; here is the walk along the row alone.
 
+#![tactic(auto)]
+
 ghost use Rattle.std.specs.Prelude.{◌≡◌, ◌^◌};
 ghost use Rattle.multiset.specs.Multisets.{Below};
 ghost use Rattle.crumbmap.specs.Layouts.{layout1};

@@ -1,3 +1,5 @@
 // Stored lines performed on three images.
 
+#![tactic(auto)]
+
 pub mod perform;

@@ -1,31 +1,33 @@
 // What a bucket that was read holds: where a member stands and how often, the largest, and the members in order.
 
+#![tactic(auto)]
+
 pub mod find;
 pub mod list;
 
 // What a search for a member finds: "the lowest slot and the number of equal copies there", or none.
-#[derive(Drop)]
+#[derive(Clone, Copy)]
 pub enum Search {
     At(usize, usize),
     Absent,
 }
 
 // The lowest key among a backyard bucket's members that carry a crumb, and its lowest slot.
-#[derive(Drop)]
+#[derive(Clone, Copy)]
 pub enum Carried {
     Key(u32, usize),
     Nothing,
 }
 
 // A place among the members of a backyard bucket: a slot, and the word's zeros from that slot's on.
-#[derive(Drop)]
+#[derive(Clone, Copy)]
 pub struct Cursor {
     pub slot: usize,
     pub zeros: u64,
 }
 
 // A member that was passed, and the place behind it.
-#[derive(Drop)]
+#[derive(Clone, Copy)]
 pub struct Passed {
     pub member: u32,
     pub next: Cursor,

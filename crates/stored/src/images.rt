@@ -1,7 +1,7 @@
 // The three images, numbered 0 to 2, each the start of a buffer, and what sets them up between calls.
 
 // What stands from line to line: how long each image is, and the change count that pages bring.
-#[derive(Drop)]
+#[derive(Clone, Copy)]
 pub struct State {
     pub a: usize,
     pub b: usize,

@@ -4,7 +4,7 @@ use text::Digits;
 use text::hex::number_of;
 
 // An operation, the image that it is performed on, two sources for a merge, a copy or a move, and the numbers p and q.
-#[derive(Drop)]
+#[derive(Clone, Copy)]
 pub struct Line {
     pub operation: u64,
     pub target: u64,
@@ -15,7 +15,7 @@ pub struct Line {
 }
 
 // A line, or other text.
-#[derive(Drop)]
+#[derive(Clone, Copy)]
 pub enum Parsed {
     Line(Line),
     Other,

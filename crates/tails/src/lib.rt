@@ -1,5 +1,7 @@
 // The tail of an image, read by words and written, and an image opened by its length and its tail.
 
+#![tactic(auto)]
+
 pub mod fresh;
 pub mod open;
 pub mod tail;
@@ -7,14 +9,14 @@ pub mod tail;
 use answers::{Refusal, Tail};
 
 // What reading a tail finds: the numbers in it, or that it is bad.
-#[derive(Drop)]
+#[derive(Clone, Copy)]
 pub enum TailReading {
     Good(Tail),
     Bad,
 }
 
 // An image that was opened: its size B, where its tail begins, and what the tail tells.
-#[derive(Drop)]
+#[derive(Clone, Copy)]
 pub struct Opened {
     pub size: usize,
     pub end: usize,
@@ -23,7 +25,7 @@ pub struct Opened {
 }
 
 // An image opened, or why it is refused: 1, then 11.
-#[derive(Drop)]
+#[derive(Clone, Copy)]
 pub enum Opening {
     At(Opened),
     Refused(Refusal),

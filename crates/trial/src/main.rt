@@ -1,5 +1,7 @@
 // Reads the stored calls from standard input, has them performed on three images, and prints each answer with the checksum of the bytes that the call was lent.
 
+#![tactic(auto)]
+
 use script::perform::step;
 use stored::Outcome;
 use stored::images::State;

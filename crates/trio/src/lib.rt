@@ -1,6 +1,8 @@
 // A row of three asks. `bcf_row` is lent a slice of structs, and the walk of a call that lends one is by hand: so what it does with its entries is done
 // here with entries by value, in the same order.
 
+#![tactic(auto)]
+
 ghost use Rattle.std.specs.Prelude.{◌≡◌, ◌^◌};
 ghost use Rattle.multiset.specs.Multisets.{Below};
 ghost use Rattle.crumbmap.specs.Layouts.{layout1};
@@ -18,7 +20,7 @@ use stored::Outcome;
 use stored::sum::of_page;
 
 // The entries of a row.
-#[derive(Drop)]
+#[derive(Clone, Copy)]
 struct Entries {
     first: Entry,
     second: Entry,
@@ -26,7 +28,7 @@ struct Entries {
 }
 
 // What a sweep along them leaves.
-#[derive(Drop)]
+#[derive(Clone, Copy)]
 struct Swept {
     state: State,
     row: Entries,

@@ -8,8 +8,8 @@ use Rattle.text.proofs.print.put_malformed.Tie as tie
 
 returns : tie.Need-returns
 unfolding line entry hex letter
-returns c = (refl, c.before.before.put-text.ensures)
+returns c = (refl, c.before.before.put_text.ensures)
 
-pub put-malformed-spec : {M : Type 1} → statement M
-put-malformed-spec =
+pub put_malformed_spec : {M : Type 1} → statement M
+put_malformed_spec =
     tie.close (tie.spec (λ c. search rules) (λ c κs. search rules) (λ c. search rules) returns)

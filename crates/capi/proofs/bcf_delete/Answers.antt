@@ -1,0 +1,21 @@
+-- `bcf_delete` packs what a delete gives.
+use mathlib.Core.Path.{◌≡◌, ◌∙◌}
+use Rattle.crumbmap.specs.Layouts.{known}
+use Rattle.form.specs.Calls.{delete_of}
+use Rattle.answers.specs.Pairs.{said_of, answer_value}
+use Rattle.answers.proofs.PairLaws.{said-changed}
+use Rattle.packing.proofs.ResultLaws.{within-packs}
+use Rattle.packing.proofs.FitLaws.{delete-fits}
+use Rattle.capi.proofs.bcf_delete.Goals.{After-changed}
+use Rattle.capi.proofs.bcf_delete.Goals as goal
+
+-- the number and the value of the answer
+said : (c : After-changed) → c.changed.result ≡ said_of answer_value (delete_of known c.args.image.now c.args.hash)
+said c =
+    said-changed (delete_of known c.args.image.now c.args.hash) c.delete.result _ c.changed.ensures c.delete.ensures.answer
+
+pub packed-requires : goal.packed-requires
+packed-requires c = rw (said c) (within-packs (delete-fits c.args.image.now c.args.hash c.ranges.hash.fits))
+
+pub returns : goal.returns
+returns c = (c.packed.ensures ∙ rw (said (goal.at.returns c).After-changed), c.delete.ensures.bytes)

@@ -1,0 +1,65 @@
+-- `insertion::insert::insert_at` meets its contract. What the plan says of the machine's insert is what is written, where the total has room.
+use mathlib.Core.Path.{◌≡◌, refl, ◌∙◌}
+use borrow.Author.Tests.{not-true}
+use Rattle.crumbmap.specs.Layouts.{layout1}
+use Rattle.machine.specs.Machine.{insert_at}
+use Rattle.image.specs.Steps.ImageReads.{FrontJoin}
+use Rattle.answers.proofs.ChangeLaws.{changes, change-refused}
+use Rattle.tails.specs.Steps.Changing.{within}
+use Rattle.tails.proofs.ChangeLaws.{within-room}
+use Rattle.insertion.specs.Steps.Insertions.{Spills}
+use Rattle.insertion.proofs.InsertSteps.{insert-short, plan-refused, plan-joins, plan-spills, plan-roomless}
+use Rattle.insertion.proofs.insert.insert_at.Goals.{After-insert_front_at-arg-1, After-insert_front_at-arg-in-Joins-1, After-spill-arg-1, Else-not-room}
+use Rattle.insertion.proofs.insert.insert_at.Goals as goal
+
+-- the machine's insert, within that room
+roomy : (c : Else-not-room) →
+    let a = c.args in
+    let m = insert_at layout1 a.target.size a.target.front.0 a.target.key a.image.now in
+    within a.room m ≡ m
+roomy c =
+    let a = c.args in
+    within-room a.room (insert_at layout1 a.target.size a.target.front.0 a.target.key a.image.now) c.if-not-room.false
+
+joins : (c : After-insert_front_at-arg-1) →
+    let a = c.args in
+    FrontJoin layout1 a.target.front.0 c.planned-in-Joins-1.given.0.0 a.target.key a.image.now
+joins c =
+    let a = c.args in
+    plan-joins layout1 a.target a.image.now c.plan-planned.ensures c.planned-in-Joins-1.given.1
+
+spills : (c : After-spill-arg-1) →
+    let a = c.args in
+    Spills layout1 a.target c.planned-in-Spills-1.given.0.0 a.image.now
+spills c =
+    let a = c.args in
+    plan-spills layout1 a.target a.image.now c.plan-planned.ensures c.planned-in-Spills-1.given.1
+
+pub insert_front_at-requires : goal.insert_front_at-requires
+insert_front_at-requires c = joins c
+
+pub spill-requires : goal.spill-requires
+spill-requires c = spills c
+
+pub returns-then-not-room : goal.returns-then-not-room
+returns-then-not-room c =
+    let a = c.args in
+    rw (not-true a.room c.if-not-room.true, c.without_room.ensures)
+    (plan-roomless layout1 a.target a.image.now c.plan-planned.result c.plan-planned.ensures)
+
+pub returns-in-Refused : goal.returns-in-Refused
+returns-in-Refused c =
+    let a = c.args in
+    changes (roomy (goal.at.returns-in-Refused c).Else-not-room ∙ plan-refused layout1 a.target a.image.now c.plan-planned.ensures c.planned-1.given.1)
+    (change-refused c.planned-1.given.0.0 a.image.now)
+
+pub returns-in-Joins : goal.returns-in-Joins
+returns-in-Joins c =
+    let a = c.args in
+    changes (roomy (goal.at.returns-in-Joins c).Else-not-room ∙ insert-short a.target a.image.now (joins (goal.at.returns-in-Joins c).After-insert_front_at-arg-in-Joins-1).read (joins (goal.at.returns-in-Joins c).After-insert_front_at-arg-in-Joins-1).room)
+    (record { answer = refl; bytes = c.insert_front_at.ensures })
+
+pub returns-in-Spills : goal.returns-in-Spills
+returns-in-Spills c =
+    let e = c.spill.ensures in
+    changes (roomy (goal.at.returns-in-Spills c).Else-not-room ∙ (spills (goal.at.returns-in-Spills c).After-spill-arg-1).insert) (record { answer = rw e.0; bytes = e.1 })

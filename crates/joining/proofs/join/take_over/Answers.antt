@@ -1,0 +1,50 @@
+-- `joining::join::take_over` meets its contract. The bytes of the one front bucket that has members, and those behind it pushed, are what putting in
+-- all of them one by one gives (`take_on`, `take-full`).
+use Rattle.crumbmap.specs.Layouts.{layout1}
+use Rattle.buckets.proofs.BucketLaws.{fits1}
+use Rattle.image.proofs.ImageReadLaws.{front-in}
+use Rattle.joining.proofs.CheckedImages.{Known, known, backyard-known}
+use Rattle.joining.proofs.JoinLaws.{take_behind, take_on, take-full}
+use Rattle.joining.proofs.join.take_over.Goals.{After-slice_known-1}
+use Rattle.joining.proofs.join.take_over.Goals as goal
+
+-- the three images are known
+first : (c : After-slice_known-1) → Known layout1 c.args.size c.args.first.now
+first c = known fits1 (λ i. (c.shared_slice_known-2-1.given i).fits) c.requires.1.from.first
+
+second : (c : After-slice_known-1) → Known layout1 c.args.size c.args.second.now
+second c = known fits1 (λ i. (c.shared_slice_known-3-1.given i).fits) c.requires.1.from.second
+
+target : (c : After-slice_known-1) → Known layout1 c.args.size c.args.target.now
+target c = known fits1 (λ i. (c.slice_known-1.given i).fits) c.requires.1.into.checked
+
+pub occupied_front-requires : goal.occupied_front-requires
+occupied_front-requires c =
+    let h = c.requires.1.into.front in
+    ((first (goal.at.occupied_front-requires c).After-slice_known-1).read.front _ h, (second (goal.at.occupied_front-requires c).After-slice_known-1).read.front _ h)
+
+pub write_front_at-requires : goal.write_front_at-requires
+write_front_at-requires c =
+    (front-in (backyard-known (target (goal.at.write_front_at-requires c).After-slice_known-1) c.requires.1.into.front).within, c.occupied_front.ensures.1)
+
+pub add_behind-requires : goal.add_behind-requires
+add_behind-requires c = (
+  c.requires.0,
+  c.requires.1.from.first,
+  take_behind fits1 (target (goal.at.add_behind-requires c).After-slice_known-1) c.requires.1.into (first (goal.at.add_behind-requires c).After-slice_known-1) (second (goal.at.add_behind-requires c).After-slice_known-1) c.requires.2
+      c.occupied_front.ensures.0 c.write_front_at.ensures,
+)
+
+pub add_behind-requires-then-add_behind : goal.add_behind-requires-then-add_behind
+add_behind-requires-then-add_behind c =
+    (c.requires.0, c.requires.1.from.second, c.add_behind.ensures.1)
+
+pub returns-then-add_behind : goal.returns-then-add_behind
+returns-then-add_behind c =
+    take_on fits1 (target (goal.at.returns-then-add_behind c).After-slice_known-1) c.requires.1.into (first (goal.at.returns-then-add_behind c).After-slice_known-1) (second (goal.at.returns-then-add_behind c).After-slice_known-1) c.requires.2 c.occupied_front.ensures.0 c.write_front_at.ensures
+    c.add_behind.result c.add_behind.last.1.1.1.1.0 c.add_behind.ensures.0 c.if-add_behind.true c.add_behind-then-add_behind.ensures.0
+
+pub returns : goal.returns
+returns c =
+    take-full fits1 (target (goal.at.returns c).After-slice_known-1) c.requires.1.into (first (goal.at.returns c).After-slice_known-1) (second (goal.at.returns c).After-slice_known-1) c.requires.2 c.occupied_front.ensures.0 c.write_front_at.ensures
+    c.add_behind.result c.add_behind.new.1.1.1.1.0 c.add_behind.ensures.0 c.if-add_behind.false

@@ -1,0 +1,24 @@
+-- `listing::lists::in_order` meets its contract. The largest of the first part is at most the least of the second (`parts-order`).
+use mathlib.Core.Logic.{inl, inr, ⊎_elim}
+use Prim.Native.Nat.{◌<◌}
+use native.Mathlib.Omega.{arith}
+use borrow.Author.Tests.{leb-true, eqb-true, eqb-false}
+use Rattle.listing.proofs.MergedLists.{parts-empty, parts-order}
+use Rattle.listing.proofs.lists.in_order.Goals.{Else-from-end}
+use Rattle.listing.proofs.lists.in_order.Goals as goal
+
+pub returns-then-from-eq0 : goal.returns-then-from-eq0
+returns-then-from-eq0 c e = parts-empty c.requires (⊎_elim (λ w. inl w.taken) (λ w. inr (eqb-true _ _ w.1.taken)) c.then-from-eq0.branch)
+
+-- neither part is empty
+behind : (c : Else-from-end) → c.args.from < c.args.end
+behind c =
+    omega (arith, c.requires.split, eqb-false c.args.from c.args.end c.if-from-end.false)
+
+pub bounds-keys-from-2 : goal.bounds-keys-from-2
+bounds-keys-from-2 c = omega (arith, behind (goal.at.bounds-keys-from-2 c).Else-from-end, c.requires.inside)
+
+pub returns : goal.returns
+returns c e =
+    let p = c.requires in
+    parts-order p (omega arith) (behind (goal.at.returns c).Else-from-end) (leb-true _ _ e)

@@ -1,0 +1,30 @@
+-- `tailed` writes the total and the change count over the first two entries, or gives the refusal.
+use mathlib.Core.Path.{◌≡◌, refl, ◌∙◌}
+use Prim.Native.Nat.{ℕ, ◌≤◌}
+use mathlib.Core.List.{List, ◌∷◌, ◌++◌}
+use native.Mathlib.Omega.{arith}
+use lib.ListN.{length, drop, set}
+use borrow.Author.Tests.{lt-ltb, le-ltb}
+use Rattle.packing.proofs.pack.tailed.Goals as goal
+
+-- two entries stored
+stored : (out : List ℕ) (n m : ℕ) → 2 ≤ length out → set (set out 0 n) 1 m ≡ (n ∷ m ∷ []) ++ drop 2 out
+stored [] n m h = absurd (omega arith)
+stored (a ∷ []) n m h = absurd (omega arith)
+stored (a ∷ b ∷ out) n m h = refl
+
+pub returns-then-out-lt2 : goal.returns-then-out-lt2
+returns-then-out-lt2 c =
+    let g = c.given-1.given.1 in
+    let h = lt-ltb _ _ c.if-out-lt2.true in
+    (c.refused.ensures ∙ rw (g, h), rw (g, h))
+
+pub returns-else-out-lt2 : goal.returns-else-out-lt2
+returns-else-out-lt2 c =
+    let g = c.given-1.given in
+    let h = le-ltb _ _ c.if-out-lt2.false in
+    let out = c.args.out.now in
+    (rw (g.1, h), rw (g.1, h) (stored out g.0.0.total g.0.0.changes c.if-out-lt2.false))
+
+pub returns-in-Refused : goal.returns-in-Refused
+returns-in-Refused c = let g = c.given-in-Refused-1.given.1 in (c.refused-in-Refused.ensures ∙ rw g, rw g)

@@ -1,0 +1,16 @@
+-- What holds at each turn of the loop, and what gets less.
+use mathlib.Core.Path.{◌≡◌}
+use Prim.Native.Nat.{ℕ, ◌-◌, ◌≤◌, ◌<◌}
+use mathlib.Core.Bool.{true}
+use lib.ListN.{drop}
+use Rattle.crumbmap.specs.Layouts.{layout1}
+use Rattle.minifilter.specs.Steps.Slots.{slot_minis, crumb_at}
+use Rattle.buckets.proofs.GapLaws.{gaps}
+use Rattle.search.proofs.list.first_carrying.Given as goal
+
+abbrev pub invariant-loop-slot : goal.invariant-loop-slot
+invariant-loop-slot l =
+    (l.slot ≤ l.members) × (l.zeros ≡ gaps l.slot (drop l.slot (slot_minis layout1 true l.word))) × ((i : ℕ) → i < l.slot → crumb_at layout1 l.b i ≡ l.crumb → ⊥)
+
+abbrev pub decreases-loop-slot : goal.decreases-loop-slot
+decreases-loop-slot l = l.members - l.slot

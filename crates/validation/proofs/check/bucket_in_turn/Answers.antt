@@ -1,0 +1,84 @@
+-- `validation::check::bucket_in_turn` meets its contract. The loop's invariant: all members are in turn where those from the cursor's slot on are.
+-- The measure is what is left of them.
+use mathlib.Core.Path.{◌≡◌, ap, ◌∙◌}
+use Prim.Native.Nat.{ℕ, ◌/◌, ◌%◌, ◌<◌}
+use mathlib.Core.List.{List}
+use native.Mathlib.Omega.{arith}
+use lib.ListN.{length, get_or}
+use Rattle.crumbmap.specs.Layouts.{layout1}
+use Rattle.crumbmap.specs.CrumbMap.{home}
+use Rattle.buckets.specs.Buckets.{back_list}
+use Rattle.minifilter.specs.Steps.Readings.{SoundBack}
+use Rattle.machine.specs.Checks.{all_in_turn, home_in_turn}
+use Rattle.image.specs.Steps.ImageReads.{BackRead}
+use Rattle.validation.proofs.CheckSteps.{member-homed, members-on, members-stop, members-end}
+use Rattle.validation.proofs.check.bucket_in_turn.Goals.{After-back_bucket-mine, After-member_in_turn, In-loop-at}
+use Rattle.validation.proofs.check.bucket_in_turn.Goals as goal
+
+-- the bucket was read
+read : (s : After-back_bucket-mine) → BackRead layout1 s.args.size s.args.bucket.0 s.args.image.now
+read s = s.requires.0.back s.args.bucket.0 s.requires.1
+
+sound : (c : After-back_bucket-mine) → SoundBack layout1 c.back_bucket-mine.result.now
+sound c = rw c.back_bucket-mine.ensures.0 (read c).sound
+
+-- the slot at hand is in use
+used : (c : In-loop-at) → c.loop-at.at.slot < length (back_list layout1 c.back_bucket-mine.result.now)
+used c = omega (arith, c.loop-at-test.true, c.count_back-members.ensures)
+
+-- what was told of the member at hand
+told : (c : After-member_in_turn) →
+    let a = c.args in
+    let y = get_or (back_list layout1 c.back_bucket-mine.result.now) c.loop-at.at.slot 0 in
+    c.member_in_turn.result ≡ home_in_turn layout1 (home a.size a.bucket.0 (y % 16)) (y / 16) a.image.now
+told c = rw c.next_back-passed.ensures.0 at c.member_in_turn.ensures
+
+pub back_bucket-mine-requires : goal.back_bucket-mine-requires
+back_bucket-mine-requires c = (read (goal.at.back_bucket-mine-requires c).After-back_bucket-mine).within
+
+pub count_back-members-requires : goal.count_back-members-requires
+count_back-members-requires c = sound c
+
+pub first_back-at-requires : goal.first_back-at-requires
+first_back-at-requires c = sound (goal.at.first_back-at-requires c).After-back_bucket-mine
+
+pub loop-at-init : goal.loop-at-init
+loop-at-init c = let e = c.first_back-at.ensures in (e.1, rw e.0)
+
+pub next_back-passed-requires : goal.next_back-passed-requires
+next_back-passed-requires c = (sound (goal.at.next_back-passed-requires c).After-back_bucket-mine, c.loop-at.invariant.0, used c)
+
+pub member_in_turn-requires : goal.member_in_turn-requires
+member_in_turn-requires c =
+    let list = rw (← c.back_bucket-mine.ensures.0) at (read (goal.at.member_in_turn-requires c).After-back_bucket-mine).list.crumbs in (
+      c.requires.0,
+      c.requires.1,
+      rw c.next_back-passed.ensures.0
+          (member-homed c.args.size c.args.bucket.0 c.loop-at.at.slot (back_list layout1 c.back_bucket-mine.result.now) list (used (goal.at.member_in_turn-requires c).In-loop-at)),
+    )
+
+pub returns-then-not-member_in_turn : goal.returns-then-not-member_in_turn
+returns-then-not-member_in_turn c =
+    let a = c.args in
+    members-stop layout1 a.size a.bucket.0 a.image.now (back_list layout1 c.back_bucket-mine.result.now) c.loop-at.at.slot c.loop-at.invariant.1
+    (used (goal.at.returns-then-not-member_in_turn c).In-loop-at) (told (goal.at.returns-then-not-member_in_turn c).After-member_in_turn) c.if-not-member_in_turn.true
+    ∙ ap (λ (bytes : List ℕ). all_in_turn layout1 a.size a.bucket.0 a.image.now (back_list layout1 bytes)) c.back_bucket-mine.ensures.0
+
+pub loop-at-smaller : goal.loop-at-smaller
+loop-at-smaller c = omega (arith, c.loop-at-test.true, c.next_back-passed.ensures.1)
+
+pub loop-at-preserved : goal.loop-at-preserved
+loop-at-preserved c =
+    let a = c.args in
+    let e = c.next_back-passed.ensures in (
+      e.2,
+      rw e.1 (members-on layout1 a.size a.bucket.0 a.image.now (back_list layout1 c.back_bucket-mine.result.now) c.loop-at.at.slot c.loop-at.invariant.1
+          (used (goal.at.loop-at-preserved c).In-loop-at) (told (goal.at.loop-at-preserved c).After-member_in_turn) c.if-not-member_in_turn.false),
+    )
+
+pub returns : goal.returns
+returns c =
+    let a = c.args in
+    members-end layout1 a.size a.bucket.0 a.image.now (back_list layout1 c.back_bucket-mine.result.now) c.loop-at.at.slot c.loop-at.invariant.1
+    (omega (arith, c.loop-at-test.false, c.loop-at.invariant.0.0, c.count_back-members.ensures))
+    ∙ ap (λ (bytes : List ℕ). all_in_turn layout1 a.size a.bucket.0 a.image.now (back_list layout1 bytes)) c.back_bucket-mine.ensures.0
