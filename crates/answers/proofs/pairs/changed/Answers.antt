@@ -3,7 +3,7 @@ use mathlib.Core.Path.{◌∙◌}
 use Rattle.answers.proofs.pairs.changed.Goals as goal
 
 pub returns-in-Accepted : goal.returns-in-Accepted
-returns-in-Accepted c = rw c.given-1.given.1
+returns-in-Accepted c = rw c.in-Accepted.is
 
 pub returns-in-Refused : goal.returns-in-Refused
-returns-in-Refused c = c.refused.ensures ∙ rw c.given-in-Refused-1.given.1
+returns-in-Refused c = c.refused.ensures ∙ rw c.in-Refused.is

@@ -16,7 +16,7 @@ standing c =
     found_in (a.key * 16 + way.crumb) (in_back layout1 a.size way.bucket.0 a.image.now)
 
 pub returns-in_default : goal.returns-in_default
-returns-in_default c = rw (search-none (standing (goal.at.returns-in_default c).After-find_at) c.find_at.ensures c.enum_told-1.given.1)
+returns-in_default c = rw (search-none (standing (goal.at.returns-in_default c).After-find_at) c.find_at.ensures c.in_default.is)
 
 pub returns : goal.returns
-returns c = rw (search-some (standing (goal.at.returns c).After-find_at) c.find_at.ensures c.slot-1.given.1)
+returns c = rw (search-some (standing (goal.at.returns c).After-find_at) c.find_at.ensures c.in-At.is)

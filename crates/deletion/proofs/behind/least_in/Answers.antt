@@ -9,9 +9,9 @@ first_carrying-requires c = let p = c.requires in rw c.back_bucket.ensures.0 (p.
 pub returns-in_default : goal.returns-in_default
 returns-in_default c =
     let w = c.args.reading.way in
-    ap (departing w) (sym c.enum_told-1.given.1 ∙ rw c.back_bucket.ensures.0 at c.first_carrying.ensures)
+    ap (departing w) (sym c.in_default.is ∙ rw c.back_bucket.ensures.0 at c.first_carrying.ensures)
 
 pub returns : goal.returns
 returns c =
     let w = c.args.reading.way in
-    ap (departing w) (sym c.key-1.given.1 ∙ rw c.back_bucket.ensures.0 at c.first_carrying.ensures)
+    ap (departing w) (sym c.in-Key.is ∙ rw c.back_bucket.ensures.0 at c.first_carrying.ensures)

@@ -20,14 +20,14 @@ roomy c =
     let a = c.args in
     within-room a.room (delete_at layout1 a.target.size a.target.front.0 a.target.key a.image.now) c.if-not-room.false
 
-leaves : (c : After-remove_front_at-arg-1) → let a = c.args in LeavesFront layout1 a.target c.planned-in-Leaves-1.given.0.0 a.image.now
-leaves c = let a = c.args in plan-leaves layout1 a.target a.image.now c.plan-planned.ensures c.planned-in-Leaves-1.given.1
+leaves : (c : After-remove_front_at-arg-1) → let a = c.args in LeavesFront layout1 a.target c.in-Leaves.slot a.image.now
+leaves c = let a = c.args in plan-leaves layout1 a.target a.image.now c.plan-planned.ensures c.in-Leaves.is
 
-refills : (c : After-refill_from-arg-1) → let a = c.args in Refills layout1 a.target c.planned-in-Refills-1.given.0.0 a.image.now
-refills c = let a = c.args in plan-refills layout1 a.target a.image.now c.plan-planned.ensures c.planned-in-Refills-1.given.1
+refills : (c : After-refill_from-arg-1) → let a = c.args in Refills layout1 a.target c.in-Refills.refill a.image.now
+refills c = let a = c.args in plan-refills layout1 a.target a.image.now c.plan-planned.ensures c.in-Refills.is
 
-takes_out : (c : After-take_out-arg-1) → let a = c.args in TakesOut layout1 a.target c.planned-in-TakesOut-1.given.0.0 a.image.now
-takes_out c = let a = c.args in plan-takes-out layout1 a.target a.image.now c.plan-planned.ensures c.planned-in-TakesOut-1.given.1
+takes_out : (c : After-take_out-arg-1) → let a = c.args in TakesOut layout1 a.target c.in-TakesOut.member a.image.now
+takes_out c = let a = c.args in plan-takes-out layout1 a.target a.image.now c.plan-planned.ensures c.in-TakesOut.is
 
 pub remove_front_at-requires : goal.remove_front_at-requires
 remove_front_at-requires c = ((leaves c).read, (leaves c).here)
@@ -47,8 +47,8 @@ returns-then-not-room c =
 pub returns-in-Refused : goal.returns-in-Refused
 returns-in-Refused c =
     let a = c.args in
-    changes (roomy (goal.at.returns-in-Refused c).Else-not-room ∙ plan-refused layout1 a.target a.image.now c.plan-planned.ensures c.planned-1.given.1)
-    (change-refused c.planned-1.given.0.0 a.image.now)
+    changes (roomy (goal.at.returns-in-Refused c).Else-not-room ∙ plan-refused layout1 a.target a.image.now c.plan-planned.ensures c.in-Refused.is)
+    (change-refused c.in-Refused.why a.image.now)
 
 pub returns-in-Leaves : goal.returns-in-Leaves
 returns-in-Leaves c =

@@ -48,17 +48,17 @@ pub overflow_sub-opened : goal.overflow_sub-opened
 overflow_sub-opened c =
     let t = c.target_of-target in
     let total = c.args.opened.total in
-    omega (arith, ltb-true 0 total (had-room (ltb 0 total) (body (goal.at.overflow_sub-opened c).Start t.result) c.delete_at.ensures c.answer-1.given.1))
+    omega (arith, ltb-true 0 total (had-room (ltb 0 total) (body (goal.at.overflow_sub-opened c).Start t.result) c.delete_at.ensures c.in-Accepted.is))
 
 pub returns-in-Refused : goal.returns-in-Refused
 returns-in-Refused c =
     let t = c.target_of-target in
     opened-refused c.requires (body (goal.at.returns-in-Refused c).Start t.result) (adjusts (goal.at.returns-in-Refused c).Start) (delete-opened c.requires c.args.hash t.ensures) c.if-opened-eq-TOP.left
-    (ltb 0 c.args.opened.total) (tail (goal.at.returns-in-Refused c).Start) (roomed (goal.at.returns-in-Refused c).Start) c.delete_at.ensures c.why-1.given.1
+    (ltb 0 c.args.opened.total) (tail (goal.at.returns-in-Refused c).Start) (roomed (goal.at.returns-in-Refused c).Start) c.delete_at.ensures c.in-Refused.is
 
 pub returns-in-Accepted : goal.returns-in-Accepted
 returns-in-Accepted c =
     let t = c.target_of-target in
     opened-accepted c.requires (body (goal.at.returns-in-Accepted c).Start t.result) (adjusts (goal.at.returns-in-Accepted c).Start) (delete-opened c.requires c.args.hash t.ensures) c.if-opened-eq-TOP.left
     (ltb 0 c.args.opened.total) (tail (goal.at.returns-in-Accepted c).Start) (roomed (goal.at.returns-in-Accepted c).Start) c.delete_at.ensures
-    (omega (arith, c.delete_at.auto, body-long c.requires)) c.write_tail.ensures c.answer-1.given.1
+    (omega (arith, c.delete_at.auto, body-long c.requires)) c.write_tail.ensures c.in-Accepted.is

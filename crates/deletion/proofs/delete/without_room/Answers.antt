@@ -2,13 +2,13 @@
 use Rattle.deletion.proofs.delete.without_room.Goals as goal
 
 pub returns-in-Refused : goal.returns-in-Refused
-returns-in-Refused c = rw c.planned-1.given.1
+returns-in-Refused c = rw c.in-Refused.is
 
 pub returns-in-Leaves : goal.returns-in-Leaves
-returns-in-Leaves c = rw c.enum_told-1.given.1
+returns-in-Leaves c = rw c.in-Leaves.is
 
 pub returns-in-Refills : goal.returns-in-Refills
-returns-in-Refills c = rw c.enum_told-in-Refills-1.given.1
+returns-in-Refills c = rw c.in-Refills.is
 
 pub returns-in-TakesOut : goal.returns-in-TakesOut
-returns-in-TakesOut c = rw c.enum_told-in-TakesOut-1.given.1
+returns-in-TakesOut c = rw c.in-TakesOut.is

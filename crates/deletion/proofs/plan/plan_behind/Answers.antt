@@ -12,10 +12,10 @@ use Rattle.deletion.proofs.plan.plan_behind.Goals as goal
 both : (c : In-Sound) →
     let t = c.args.target in
     let img = c.args.image.now in
-    Reads layout1 true t.size t.front.0 t.key img c.a-1.given.0.0 × Reads layout1 false t.size t.front.0 t.key img c.a-1.given.0.1.0
+    Reads layout1 true t.size t.front.0 t.key img c.in-Sound.a × Reads layout1 false t.size t.front.0 t.key img c.in-Sound.b
 both c =
     let a = c.args in
-    both-sound layout1 a.target.size a.target.front.0 a.target.key a.image.now c.read_backyard.ensures c.a-1.given.1
+    both-sound layout1 a.target.size a.target.front.0 a.target.key a.image.now c.read_backyard.ensures c.in-Sound.is
 
 pub copy-requires : goal.copy-requires
 copy-requires c = let k = c.requires.0.key in (read-for (both c).0 k, read-for (both c).1 k)
@@ -24,17 +24,17 @@ pub returns-in-Unsound : goal.returns-in-Unsound
 returns-in-Unsound c =
     let t = c.args.target in
     behind-unsound t c.args.image.now c.requires.1
-    (both-unsound layout1 t.size t.front.0 t.key c.args.image.now c.read_backyard.ensures c.table-1.given.1)
+    (both-unsound layout1 t.size t.front.0 t.key c.args.image.now c.read_backyard.ensures c.in-Unsound.is)
 
 pub returns-in-Nothing : goal.returns-in-Nothing
 returns-in-Nothing c =
     let b = both (goal.at.returns-in-Nothing c).In-Sound in
-    behind-absent c.args.target c.args.image.now c.requires.1 (both_read b.0 b.1) (copy-nothing b.0 b.1 c.copy.ensures c.enum_told-1.given.1)
+    behind-absent c.args.target c.args.image.now c.requires.1 (both_read b.0 b.1) (copy-nothing b.0 b.1 c.copy.ensures c.in-Nothing.is)
 
 pub returns-in-Member : goal.returns-in-Member
 returns-in-Member c =
     let b = both (goal.at.returns-in-Member c).In-Sound in
-    let m = copy-member b.0 b.1 c.copy.ensures c.member-1.given.1 in
+    let m = copy-member b.0 b.1 c.copy.ensures c.in-Member.is in
     record {
       stands = m.0.stands;
       delete = behind-taken c.args.target c.args.image.now c.requires.1 (both_read b.0 b.1) m.2 m.1 m.0;

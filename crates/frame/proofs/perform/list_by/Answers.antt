@@ -20,14 +20,14 @@ abbrev asked : In-Accepted → Result Run
 asked c = list_of c.args.image.now
 
 -- what the page gave, and wrote
-listed : (c : In-Accepted) → accepted (c.n-1.given.0.0, c.n-1.given.0.1.0) ≡ extent_of (asked c)
-listed c = rw c.n-1.given.1 at c.page_whole.ensures.answer
+listed : (c : In-Accepted) → accepted (c.in-Accepted.n, c.in-Accepted.field-1) ≡ extent_of (asked c)
+listed c = rw c.in-Accepted.is at c.page_whole.ensures.answer
 
 written : (c : In-Accepted) → c.page_whole.new.1.0 ≡ output_of (asked c) c.args.entries.now
 written c = c.page_whole.ensures.bytes
 
 -- not more than there is room for
-few : (c : In-Accepted) → c.n-1.given.0.0 ≤ room
+few : (c : In-Accepted) → c.in-Accepted.n ≤ room
 few c =
     rw (sym c.requires.0)
     (list-room (asked c) _ _ c.args.entries.now _ (listed c) (written c) c.page_whole.auto.1.0)
@@ -37,7 +37,7 @@ slice_bounds-put_entries-end c = omega (arith, few (goal.at.slice_bounds-put_ent
 
 pub put_entries-requires : goal.put_entries-requires
 put_entries-requires c =
-    omega (arith, few (goal.at.put_entries-requires c).In-Accepted-2, take-le (c.n-1.given.0.0 - 0) c.page_whole.new.1.0)
+    omega (arith, few (goal.at.put_entries-requires c).In-Accepted-2, take-le (c.in-Accepted.n - 0) c.page_whole.new.1.0)
 
 pub overflow_mul-result : goal.overflow_mul-result
 overflow_mul-result c = omega (arith, few (goal.at.overflow_mul-result c).In-Accepted-2)
@@ -48,15 +48,15 @@ overflow_add-result c = omega (arith, few (goal.at.overflow_add-result c).In-Acc
 pub returns-in-Accepted : goal.returns-in-Accepted
 returns-in-Accepted c =
     let a = c.args in
-    list-text (asked (goal.at.returns-in-Accepted c).In-Accepted-2) c.n-1.given.0.0 c.n-1.given.0.1.0 a.entries.now _ a.out.now _ _ (listed (goal.at.returns-in-Accepted c).In-Accepted-2) (written (goal.at.returns-in-Accepted c).In-Accepted-2)
+    list-text (asked (goal.at.returns-in-Accepted c).In-Accepted-2) c.in-Accepted.n c.in-Accepted.field-1 a.entries.now _ a.out.now _ _ (listed (goal.at.returns-in-Accepted c).In-Accepted-2) (written (goal.at.returns-in-Accepted c).In-Accepted-2)
     c.put_line.ensures.1 c.put_entries.ensures
 
 pub returns-in-Refused : goal.returns-in-Refused
 returns-in-Refused c =
     let a = c.args in
     let p = c.put_line-in-Refused.ensures in
-    let e = rw c.why-1.given.1 at c.page_whole.ensures.answer in
+    let e = rw c.in-Refused.is at c.page_whole.ensures.answer in
     let t : told 5 c.refused.result ≡ list_text (list_of a.image.now) =
-    rw c.refused.ensures (list-refused (list_of a.image.now) c.why-1.given.0.0 e)
+    rw c.refused.ensures (list-refused (list_of a.image.now) c.in-Refused.why e)
     in
     (p.0 ∙ sym (length-line 5 _ _) ∙ ap length t, p.1 ∙ ap (λ (l : List ℕ). over 0 l a.out.now) t)

@@ -24,8 +24,8 @@ module _ (img : List ℕ) {r : TailResult} (said : tailed_of r ≡ tail_of known
 
 pub returns-in-Accepted : goal.returns-in-Accepted
 returns-in-Accepted c =
-    rw (listed c.args.image.now c.tail.ensures c.told-1.given.1) (rw c.requires at c.page.ensures)
+    rw (listed c.args.image.now c.tail.ensures c.in-Accepted.is) (rw c.requires at c.page.ensures)
 
 pub returns-in-Refused : goal.returns-in-Refused
 returns-in-Refused c =
-    rw (barred c.args.image.now c.tail.ensures c.why-1.given.1) (record { answer = refl; bytes = refl })
+    rw (barred c.args.image.now c.tail.ensures c.in-Refused.is) (record { answer = refl; bytes = refl })

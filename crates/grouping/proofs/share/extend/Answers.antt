@@ -23,14 +23,14 @@ read c e =
     shared-read fits1 (λ i. (c.shared_slice_known-1.given i).fits) p.within c.args.key p.group p.few (told c e)
 
 pub bound_of-requires : goal.bound_of-requires
-bound_of-requires c = let r = read (goal.at.bound_of-requires c).After-share c.reads-1.given.1 in (r.0.front r.1, r.1)
+bound_of-requires c = let r = read (goal.at.bound_of-requires c).After-share c.in-Read.is in (r.0.front r.1, r.1)
 
 pub overflow_sub-result : goal.overflow_sub-result
-overflow_sub-result c = (read (goal.at.overflow_sub-result c).After-share c.reads-1.given.1).2
+overflow_sub-result c = (read (goal.at.overflow_sub-result c).After-share c.in-Read.is).2
 
 pub overflow_add-result : goal.overflow_add-result
 overflow_add-result c =
-    let r = read (goal.at.overflow_add-result c).After-share c.reads-1.given.1 in
+    let r = read (goal.at.overflow_add-result c).After-share c.in-Read.is in
     omega (arith, c.requires.most, c.requires.few, r.3, front-most c.requires.within)
 
 -- the state by what reading on came to
@@ -41,7 +41,7 @@ extended img s f b n e g h = rw (sym e, g, h)
 pub returns-in-Read : goal.returns-in-Read
 returns-in-Read c =
     let a = c.args in
-    extended a.image.now a.s a.front.0 _ _ (told (goal.at.returns-in-Read c).After-share c.reads-1.given.1) c.bound_of.ensures c.requires.same
+    extended a.image.now a.s a.front.0 _ _ (told (goal.at.returns-in-Read c).After-share c.in-Read.is) c.bound_of.ensures c.requires.same
 
 barred : (img : List ℕ) (s : State) (f i : ℕ) {r : Result ℕ} → refused 3 i ≡ r
     → record { phase = s.phase; number = 3; reads = s.reads; bound = s.bound; size = s.size; table = i; front = f; total = s.total } ≡ advanced layout1 img s f r
@@ -50,7 +50,7 @@ barred img s f i e = rw (sym e)
 pub returns-in-Unsound : goal.returns-in-Unsound
 returns-in-Unsound c =
     let a = c.args in
-    barred a.image.now a.s a.front.0 _ (told (goal.at.returns-in-Unsound c).After-share c.table-1.given.1)
+    barred a.image.now a.s a.front.0 _ (told (goal.at.returns-in-Unsound c).After-share c.in-Unsound.is)
 
 pub share-requires : goal.share-requires
 share-requires c = let p = c.requires in (p.within, p.key, p.group)

@@ -16,12 +16,12 @@ returns-in_default c =
     let f = a.front.0 in
     bars layout1 a.size f a.key a.image.now a.reads
     (ask-unsound layout1 a.size f a.key a.image.now
-    (front-unsound layout1 f a.key a.image.now c.read_front_at.ensures c.enum_told-in_default-1.given.1))
+    (front-unsound layout1 f a.key a.image.now c.read_front_at.ensures c.in_default.is))
 
 pub share_front-requires : goal.share_front-requires
 share_front-requires c =
     let a = c.args in
-    let told = front-told layout1 a.front.0 a.key a.image.now c.read_front_at.ensures c.enum_told-1.given.1 in
+    let told = front-told layout1 a.front.0 a.key a.image.now c.read_front_at.ensures c.in-Members.is in
     (c.requires.0, c.requires.1, front-group told.0, omega arith)
 
 pub returns-then-reads-eq0 : goal.returns-then-reads-eq0

@@ -36,7 +36,7 @@ share_second-requires c =
     let p = c.requires in (
       p.0,
       p.1,
-      record { over = p.2; read = p.3; absent = search-none (standing (goal.at.share_second-requires c).After-seek_at) (found (goal.at.share_second-requires c).After-seek_at) c.enum_told-in_default-1.given.1 },
+      record { over = p.2; read = p.3; absent = search-none (standing (goal.at.share_second-requires c).After-seek_at) (found (goal.at.share_second-requires c).After-seek_at) c.in_default.is },
       omega arith,
       sym c.coincide.ensures ∙ c.if-coincide.false,
     )
@@ -46,4 +46,4 @@ returns c =
     let a = c.args in
     let f = a.front.0 in
     shares layout1 a.size f a.key a.image.now
-    (first_found layout1 a.size f a.key a.image.now c.requires.2 c.requires.3 (search-some (standing (goal.at.returns c).After-seek_at) (found (goal.at.returns c).After-seek_at) c.enum_told-1.given.1)) (omega arith)
+    (first_found layout1 a.size f a.key a.image.now c.requires.2 c.requires.3 (search-some (standing (goal.at.returns c).After-seek_at) (found (goal.at.returns c).After-seek_at) c.in-At.is)) (omega arith)

@@ -18,7 +18,7 @@ reads : (c : In-Members) → let a = c.args in let g = c.members-1.given.0 in
     Reads layout1 true a.size a.front.0 a.key a.image.now (record { way = c.first_of-way.result; members = g.0; below = g.1.0 })
 reads c =
     let a = c.args in
-    way-read layout1 true c.first_of-way.ensures a.key a.image.now c.read_back_at.ensures c.members-1.given.1
+    way-read layout1 true c.first_of-way.ensures a.key a.image.now c.read_back_at.ensures c.in-Members.is
 
 -- where the key stands in b0 with its crumb, and what was found
 abbrev standing : After-find_at → Option Found
@@ -42,7 +42,7 @@ pub returns-in_default : goal.returns-in_default
 returns-in_default c =
     let a = c.args in
     let l = c.first_of-way.ensures in
-    let e = way-unsound layout1 true l a.key a.image.now c.read_back_at.ensures c.enum_told-1.given.1 in
+    let e = way-unsound layout1 true l a.key a.image.now c.read_back_at.ensures c.in_default.is in
     rw (c.table_of.ensures, l.bucket)
     (bars layout1 a.size a.front.0 a.key a.image.now 1 (first-unsound layout1 a.size a.front.0 a.key a.image.now c.requires.2 e))
 
@@ -60,7 +60,7 @@ share_second-requires c =
     let p = c.requires in (
       p.0,
       p.1,
-      record { over = p.2; read = (reads (goal.at.share_second-requires c).In-Members).read; absent = search-none (standing (goal.at.share_second-requires c).After-find_at) (found (goal.at.share_second-requires c).After-find_at) c.enum_told-in_default-find_at-1.given.1 },
+      record { over = p.2; read = (reads (goal.at.share_second-requires c).In-Members).read; absent = search-none (standing (goal.at.share_second-requires c).After-find_at) (found (goal.at.share_second-requires c).After-find_at) c.in_default-find_at.is },
       omega arith,
       sym c.coincide.ensures ∙ c.if-coincide.false,
     )
@@ -70,4 +70,4 @@ returns c =
     let a = c.args in
     shares layout1 a.size a.front.0 a.key a.image.now
     (first_found layout1 a.size a.front.0 a.key a.image.now c.requires.2 (reads (goal.at.returns c).In-Members).read
-    (search-some (standing (goal.at.returns c).After-find_at) (found (goal.at.returns c).After-find_at) c.enum_told-in-At-1.given.1)) (omega arith)
+    (search-some (standing (goal.at.returns c).After-find_at) (found (goal.at.returns c).After-find_at) c.in-At.is)) (omega arith)

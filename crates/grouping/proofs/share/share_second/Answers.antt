@@ -26,7 +26,7 @@ pub returns-in_default : goal.returns-in_default
 returns-in_default c =
     let a = c.args in
     let l = c.second_of-way.ensures in
-    let e = way-unsound layout1 false l a.key a.image.now c.read_back_at.ensures c.enum_told-in_default-1.given.1 in
+    let e = way-unsound layout1 false l a.key a.image.now c.read_back_at.ensures c.in_default.is in
     rw (c.table_of.ensures, l.bucket)
     (bars layout1 a.size a.front.0 a.key a.image.now a.reads
     (second-unsound layout1 a.size a.front.0 a.key a.image.now e ∙ goes_on (goal.at.returns-in_default c).After-second_of-way))
@@ -34,7 +34,7 @@ returns-in_default c =
 pub returns : goal.returns
 returns c =
     let a = c.args in
-    let b1 = way-read layout1 false c.second_of-way.ensures a.key a.image.now c.read_back_at.ensures c.enum_told-1.given.1 in
+    let b1 = way-read layout1 false c.second_of-way.ensures a.key a.image.now c.read_back_at.ensures c.in-Members.is in
     let t = second-read layout1 a.size a.front.0 a.key a.image.now b1.read in
     let three = t.2 ∙ reads-apart a.size a.front.0 c.requires.4 in
     rw three at (shares layout1 a.size a.front.0 a.key a.image.now {reads = a.reads} (t.1 ∙ goes_on (goal.at.returns c).After-second_of-way) (omega (arith, three, c.requires.3)))

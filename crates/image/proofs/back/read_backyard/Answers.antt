@@ -11,9 +11,9 @@ use Rattle.image.proofs.back.read_backyard.Goals as goal
 b0 : (c : In-Members) →
     let a = c.args in
     Reads layout1 true a.size a.front.0 a.key a.image.now
-    (record { way = a.ways.first; members = c.n0-1.given.0.0; below = c.n0-1.given.0.1.0 })
+    (record { way = a.ways.first; members = c.in-Members.n0; below = c.in-Members.s0 })
 b0 c =
-    way-read layout1 true c.requires.1.first c.args.key c.args.image.now c.read_back_at.ensures c.n0-1.given.1
+    way-read layout1 true c.requires.1.first c.args.key c.args.image.now c.read_back_at.ensures c.in-Members.is
 
 pub read_back_at-requires : goal.read_back_at-requires
 read_back_at-requires c =
@@ -23,7 +23,7 @@ read_back_at-requires c =
 pub returns-in_default : goal.returns-in_default
 returns-in_default c =
     let l = c.requires.1.first in
-    rw (c.table_of-t0.ensures, l.bucket, way-unsound layout1 true l c.args.key c.args.image.now c.read_back_at.ensures c.enum_told-1.given.1)
+    rw (c.table_of-t0.ensures, l.bucket, way-unsound layout1 true l c.args.key c.args.image.now c.read_back_at.ensures c.in_default.is)
 
 pub read_back_at-requires-2 : goal.read_back_at-requires-2
 read_back_at-requires-2 c =
@@ -34,8 +34,8 @@ pub returns-in_default-read_back_at : goal.returns-in_default-read_back_at
 returns-in_default-read_back_at c =
     let l = c.requires.1.second in
     second-unsound l c.table_of-t1.ensures (b0 (goal.at.returns-in_default-read_back_at c).In-Members).read
-    (way-unsound layout1 false l c.args.key c.args.image.now c.read_back_at-2.ensures c.enum_told-in_default-read_back_at-1.given.1)
+    (way-unsound layout1 false l c.args.key c.args.image.now c.read_back_at-2.ensures c.in_default-read_back_at.is)
 
 pub returns : goal.returns
 returns c =
-    (b0 (goal.at.returns c).In-Members, way-read layout1 false c.requires.1.second c.args.key c.args.image.now c.read_back_at-2.ensures c.n1-1.given.1)
+    (b0 (goal.at.returns c).In-Members, way-read layout1 false c.requires.1.second c.args.key c.args.image.now c.read_back_at-2.ensures c.in-Members-read_back_at.is)

@@ -23,17 +23,17 @@ roomy c =
 
 joins : (c : After-insert_front_at-arg-1) →
     let a = c.args in
-    FrontJoin layout1 a.target.front.0 c.planned-in-Joins-1.given.0.0 a.target.key a.image.now
+    FrontJoin layout1 a.target.front.0 c.in-Joins.slot a.target.key a.image.now
 joins c =
     let a = c.args in
-    plan-joins layout1 a.target a.image.now c.plan-planned.ensures c.planned-in-Joins-1.given.1
+    plan-joins layout1 a.target a.image.now c.plan-planned.ensures c.in-Joins.is
 
 spills : (c : After-spill-arg-1) →
     let a = c.args in
-    Spills layout1 a.target c.planned-in-Spills-1.given.0.0 a.image.now
+    Spills layout1 a.target c.in-Spills.spilling a.image.now
 spills c =
     let a = c.args in
-    plan-spills layout1 a.target a.image.now c.plan-planned.ensures c.planned-in-Spills-1.given.1
+    plan-spills layout1 a.target a.image.now c.plan-planned.ensures c.in-Spills.is
 
 pub insert_front_at-requires : goal.insert_front_at-requires
 insert_front_at-requires c = joins c
@@ -50,8 +50,8 @@ returns-then-not-room c =
 pub returns-in-Refused : goal.returns-in-Refused
 returns-in-Refused c =
     let a = c.args in
-    changes (roomy (goal.at.returns-in-Refused c).Else-not-room ∙ plan-refused layout1 a.target a.image.now c.plan-planned.ensures c.planned-1.given.1)
-    (change-refused c.planned-1.given.0.0 a.image.now)
+    changes (roomy (goal.at.returns-in-Refused c).Else-not-room ∙ plan-refused layout1 a.target a.image.now c.plan-planned.ensures c.in-Refused.is)
+    (change-refused c.in-Refused.why a.image.now)
 
 pub returns-in-Joins : goal.returns-in-Joins
 returns-in-Joins c =

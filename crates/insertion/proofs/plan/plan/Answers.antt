@@ -15,10 +15,10 @@ use Rattle.insertion.proofs.plan.plan.Goals as goal
 front : (c : In-Members) →
     let t = c.args.target in
     let xs = in_front layout1 t.front.0 c.args.image.now in
-    FrontRead layout1 t.front.0 c.args.image.now × (length xs ≡ c.n-1.given.0.0) × (c.n-1.given.0.1.0 ≡ below t.key xs)
+    FrontRead layout1 t.front.0 c.args.image.now × (length xs ≡ c.in-Members.n) × (c.in-Members.slot ≡ below t.key xs)
 front c =
     let a = c.args in
-    front-told layout1 a.target.front.0 a.target.key a.image.now c.read_front_at.ensures c.n-1.given.1
+    front-told layout1 a.target.front.0 a.target.key a.image.now c.read_front_at.ensures c.in-Members.is
 
 pub read_front_at-requires : goal.read_front_at-requires
 read_front_at-requires c = let p = c.requires in (front-in p.within, p.key)
@@ -27,7 +27,7 @@ pub returns-in_default : goal.returns-in_default
 unfolding insert_at
 returns-in_default c =
     let a = c.args in
-    rw (front-unsound layout1 a.target.front.0 a.target.key a.image.now c.read_front_at.ensures c.enum_told-1.given.1)
+    rw (front-unsound layout1 a.target.front.0 a.target.key a.image.now c.read_front_at.ensures c.in_default.is)
 
 pub returns-then-n-lt-FRONT_SLOTS : goal.returns-then-n-lt-FRONT_SLOTS
 returns-then-n-lt-FRONT_SLOTS c =

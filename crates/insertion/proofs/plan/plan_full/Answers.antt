@@ -13,10 +13,10 @@ both : (c : In-Sound) →
     let t = c.args.target in
     let img = c.args.image.now in
     let over = c.overflow_of-over.result in
-    Reads layout1 true t.size t.front.0 over img c.a-1.given.0.0 × Reads layout1 false t.size t.front.0 over img c.a-1.given.0.1.0
+    Reads layout1 true t.size t.front.0 over img c.in-Sound.a × Reads layout1 false t.size t.front.0 over img c.in-Sound.b
 both c =
     let a = c.args in
-    both-sound layout1 a.target.size a.target.front.0 c.overflow_of-over.result a.image.now c.read_backyard.ensures c.a-1.given.1
+    both-sound layout1 a.target.size a.target.front.0 c.overflow_of-over.result a.image.now c.read_backyard.ensures c.in-Sound.is
 
 pub overflow_of-over-requires : goal.overflow_of-over-requires
 overflow_of-over-requires c = let p = c.requires in (p.whole, p.placed.key)
@@ -33,21 +33,21 @@ pub returns-in-Unsound : goal.returns-in-Unsound
 returns-in-Unsound c =
     let t = c.args.target in
     insert-unsound t c.args.image.now c.requires.whole
-    (both-unsound layout1 t.size t.front.0 c.overflow_of-over.result c.args.image.now c.read_backyard.ensures c.table-1.given.1)
+    (both-unsound layout1 t.size t.front.0 c.overflow_of-over.result c.args.image.now c.read_backyard.ensures c.in-Unsound.is)
 
 pub returns-in-Full : goal.returns-in-Full
 returns-in-Full c =
     let b = both (goal.at.returns-in-Full c).In-Sound in
-    plan-stuck c.requires c.overflow_of-over.ensures.0 b.0 b.1 (taking-full c.taker.ensures c.enum_told-1.given.1)
+    plan-stuck c.requires c.overflow_of-over.ensures.0 b.0 b.1 (taking-full c.taker.ensures c.in-Full.is)
 
 pub returns-in-First : goal.returns-in-First
 returns-in-First c =
     let b = both (goal.at.returns-in-First c).In-Sound in
     rw c.spills.ensures
-    (plan-first c.requires c.overflow_of-over.ensures.0 b.0 b.1 (taking-first c.taker.ensures c.enum_told-in-First-1.given.1))
+    (plan-first c.requires c.overflow_of-over.ensures.0 b.0 b.1 (taking-first c.taker.ensures c.in-First.is))
 
 pub returns-in-Second : goal.returns-in-Second
 returns-in-Second c =
     let b = both (goal.at.returns-in-Second c).In-Sound in
     rw c.spills-in-Second.ensures
-    (plan-second c.requires c.overflow_of-over.ensures.0 b.0 b.1 (taking-second c.taker.ensures c.enum_told-in-Second-1.given.1))
+    (plan-second c.requires c.overflow_of-over.ensures.0 b.0 b.1 (taking-second c.taker.ensures c.in-Second.is))

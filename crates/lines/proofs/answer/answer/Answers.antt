@@ -4,10 +4,10 @@ use Rattle.lines.proofs.answer.answer.Goals as goal
 
 pub returns-in_default : goal.returns-in_default
 returns-in_default c =
-    let e = rw c.enum_told-1.given.1 at c.frame.ensures in
+    let e = rw c.in_default.is at c.frame.ensures in
     absurd (fits c.args.line.now c.args.image.now c.args.out.now _ _ c.requires.0 c.requires.1 e)
 
 pub returns : goal.returns
 returns c =
-    let e = rw c.n-1.given.1 at c.frame.ensures in
+    let e = rw c.in-Text.is at c.frame.ensures in
     replied c.args.line.now c.args.image.now c.args.out.now _ _ _ c.requires.0 c.requires.1 e

@@ -14,17 +14,17 @@ use Rattle.listing.proofs.members.count_members.Goals as goal
 
 -- Front(f), and b0 and b1, as they were read
 front : (c : In-Members) → let a = c.args in
-    FrontRead layout1 a.front.0 a.image.now × (length (in_front layout1 a.front.0 a.image.now) ≡ c.n-1.given.0.0)
+    FrontRead layout1 a.front.0 a.image.now × (length (in_front layout1 a.front.0 a.image.now) ≡ c.in-Members.n)
 front c =
     let a = c.args in
-    let r = front-told layout1 a.front.0 0 a.image.now c.sound_front_at.ensures c.n-1.given.1 in
+    let r = front-told layout1 a.front.0 0 a.image.now c.sound_front_at.ensures c.in-Members.is in
     (r.0, r.1)
 
 both : (c : In-Sound) → let a = c.args in let g = c.a-1.given.0 in
     Reads layout1 true a.size a.front.0 0 a.image.now g.0 × Reads layout1 false a.size a.front.0 0 a.image.now g.1.0
 both c =
     let a = c.args in
-    both-sound layout1 a.size a.front.0 0 a.image.now c.read_backyard.ensures c.a-1.given.1
+    both-sound layout1 a.size a.front.0 0 a.image.now c.read_backyard.ensures c.in-Sound.is
 
 pub sound_front_at-requires : goal.sound_front_at-requires
 sound_front_at-requires c = front-in c.requires
@@ -33,7 +33,7 @@ pub returns-in_default : goal.returns-in_default
 unfolding members_at
 returns-in_default c =
     let a = c.args in
-    rw (front-unsound layout1 a.front.0 0 a.image.now c.sound_front_at.ensures c.enum_told-1.given.1)
+    rw (front-unsound layout1 a.front.0 0 a.image.now c.sound_front_at.ensures c.in_default.is)
 
 pub returns-then-n-lt-FRONT_SLOTS : goal.returns-then-n-lt-FRONT_SLOTS
 returns-then-n-lt-FRONT_SLOTS c =
@@ -62,7 +62,7 @@ returns-in-Unsound c =
     let a = c.args in
     let r = front (goal.at.returns-in-Unsound c).In-Members in
     counting-unsound r.0 a.size (omega (arith, r.1))
-    (both-unsound layout1 a.size a.front.0 0 a.image.now c.read_backyard.ensures c.table-1.given.1)
+    (both-unsound layout1 a.size a.front.0 0 a.image.now c.read_backyard.ensures c.in-Unsound.is)
 
 pub returns-in-Sound : goal.returns-in-Sound
 returns-in-Sound c =

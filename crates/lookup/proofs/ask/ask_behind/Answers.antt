@@ -44,10 +44,10 @@ ask_second-requires-in-Absent c =
     (c.requires.0, sym (reads-apart c.args.target.size c.args.target.front.0 (two (goal.at.ask_second-requires-in-Absent c).Else-coincide)))
 
 pub returns-in-Unsound : goal.returns-in-Unsound
-returns-in-Unsound c = in-first (goal.at.returns-in-Unsound c).After-seek c.table-1.given.1
+returns-in-Unsound c = in-first (goal.at.returns-in-Unsound c).After-seek c.in-Unsound.is
 
 pub returns-in-At : goal.returns-in-At
-returns-in-At c = in-first (goal.at.returns-in-At c).After-seek c.slot-1.given.1
+returns-in-At c = in-first (goal.at.returns-in-At c).After-seek c.in-At.is
 
 pub returns-in-Absent : goal.returns-in-Absent
-returns-in-Absent c = c.ask_second-in-Absent.ensures ∙ in-first (goal.at.returns-in-Absent c).After-seek c.enum_told-1.given.1
+returns-in-Absent c = c.ask_second-in-Absent.ensures ∙ in-first (goal.at.returns-in-Absent c).After-seek c.in-Absent.is

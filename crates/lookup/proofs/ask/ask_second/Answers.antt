@@ -22,10 +22,10 @@ found c e =
     ask-second layout1 t.size t.front.0 t.key c.args.image.now c.seek.ensures e c.second_of.ensures c.requires.1
 
 pub returns-in-Unsound : goal.returns-in-Unsound
-returns-in-Unsound c = found (goal.at.returns-in-Unsound c).After-seek c.table-1.given.1
+returns-in-Unsound c = found (goal.at.returns-in-Unsound c).After-seek c.in-Unsound.is
 
 pub returns-in-At : goal.returns-in-At
-returns-in-At c = found (goal.at.returns-in-At c).After-seek c.slot-1.given.1
+returns-in-At c = found (goal.at.returns-in-At c).After-seek c.in-At.is
 
 pub returns-in-Absent : goal.returns-in-Absent
-returns-in-Absent c = c.none_in.ensures ∙ found (goal.at.returns-in-Absent c).After-seek c.enum_told-1.given.1
+returns-in-Absent c = c.none_in.ensures ∙ found (goal.at.returns-in-Absent c).After-seek c.in-Absent.is

@@ -11,8 +11,8 @@ use Rattle.tails.proofs.CallLaws.{body-long, body-placed, hash-call}
 use Rattle.lookup.proofs.count.count.Goals.{In-At, In-At-2}
 use Rattle.lookup.proofs.count.count.Goals as goal
 
-opens : (c : In-At) → Opens c.opened-1.given.0.0 c.args.image.now
-opens c = said-open c.args.image.now c.open_image.ensures c.opened-1.given.1
+opens : (c : In-At) → Opens c.in-At.opened c.args.image.now
+opens c = said-open c.args.image.now c.open_image.ensures c.in-At.is
 
 pub slice_bounds-count_at-end : goal.slice_bounds-count_at-end
 slice_bounds-count_at-end c = body-long (opens (goal.at.slice_bounds-count_at-end c).In-At-2)
@@ -27,8 +27,8 @@ pub returns-in-Refused : goal.returns-in-Refused
 unfolding count_of
 returns-in-Refused c =
     let a = c.args in
-    sym (then-shut a.image.now c.why-1.given.0.0 (λ h. M.count_of h.layout (body a.image.now) a.hash)
-    (said-shut a.image.now c.open_image.ensures c.why-1.given.1))
+    sym (then-shut a.image.now c.in-Refused.why (λ h. M.count_of h.layout (body a.image.now) a.hash)
+    (said-shut a.image.now c.open_image.ensures c.in-Refused.is))
 
 pub returns-in-At : goal.returns-in-At
 unfolding count_of M.count_of

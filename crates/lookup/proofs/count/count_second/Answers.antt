@@ -22,13 +22,13 @@ found c e = behind-same c.requires.0 c.requires.1 c.seek.ensures c.second_of.ens
 
 pub overflow_add-copies : goal.overflow_add-copies
 overflow_add-copies c =
-    omega (arith, here-few c.requires.0, sought-few c.requires.0 c.second_of.result c.seek.ensures c.second-1.given.1)
+    omega (arith, here-few c.requires.0, sought-few c.requires.0 c.second_of.result c.seek.ensures c.in-At.is)
 
 pub returns-in-Unsound : goal.returns-in-Unsound
-returns-in-Unsound c = found (goal.at.returns-in-Unsound c).After-seek c.table-1.given.1
+returns-in-Unsound c = found (goal.at.returns-in-Unsound c).After-seek c.in-Unsound.is
 
 pub returns-in-At : goal.returns-in-At
-returns-in-At c = found (goal.at.returns-in-At c).After-seek c.second-1.given.1
+returns-in-At c = found (goal.at.returns-in-At c).After-seek c.in-At.is
 
 pub returns-in-Absent : goal.returns-in-Absent
-returns-in-Absent c = found (goal.at.returns-in-Absent c).After-seek c.enum_told-1.given.1
+returns-in-Absent c = found (goal.at.returns-in-Absent c).After-seek c.in-Absent.is

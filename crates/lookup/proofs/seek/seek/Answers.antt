@@ -16,11 +16,11 @@ use Rattle.lookup.proofs.seek.seek.Goals as goal
 -- the backyard bucket was read, and the slot is that of the member
 back : (c : In-Members) → let a = c.args in let j = a.way.bucket.0 in
     BackRead layout1 a.size j a.image.now
-    × (c.below-1.given.0.1.0 ≡ below (a.key * 16 + a.way.crumb) (in_back layout1 a.size j a.image.now))
+    × (c.in-Members.below ≡ below (a.key * 16 + a.way.crumb) (in_back layout1 a.size j a.image.now))
 back c =
     let a = c.args in
     let r = back-told layout1 a.size a.way.bucket.0 (a.key * 16 + a.way.crumb) a.image.now c.read_back_at.ensures
-    c.below-1.given.1 in
+    c.in-Members.is in
     (r.0, r.2)
 
 -- where the member stands in that bucket
@@ -38,7 +38,7 @@ returns-in_default c =
     rw (
       c.table_of.ensures,
       back-unsound layout1 a.size a.way.bucket.0 (a.key * 16 + a.way.crumb) a.image.now c.read_back_at.ensures
-          c.enum_told-1.given.1,
+          c.in_default.is,
     )
 
 pub back_bucket-requires : goal.back_bucket-requires
@@ -52,8 +52,8 @@ find_back-requires c =
 
 pub returns-in-At : goal.returns-in-At
 returns-in-At c =
-    rw ((back (goal.at.returns-in-At c).In-Members).0.accepts, search-some (standing (goal.at.returns-in-At c).After-find_back) (found (goal.at.returns-in-At c).After-find_back) c.slot-1.given.1)
+    rw ((back (goal.at.returns-in-At c).In-Members).0.accepts, search-some (standing (goal.at.returns-in-At c).After-find_back) (found (goal.at.returns-in-At c).After-find_back) c.in-At.is)
 
 pub returns-in-Absent : goal.returns-in-Absent
 returns-in-Absent c =
-    rw ((back (goal.at.returns-in-Absent c).In-Members).0.accepts, search-none (standing (goal.at.returns-in-Absent c).After-find_back) (found (goal.at.returns-in-Absent c).After-find_back) c.enum_told-in-Absent-1.given.1)
+    rw ((back (goal.at.returns-in-Absent c).In-Members).0.accepts, search-none (standing (goal.at.returns-in-Absent c).After-find_back) (found (goal.at.returns-in-Absent c).After-find_back) c.in-Absent.is)

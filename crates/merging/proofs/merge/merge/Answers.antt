@@ -13,32 +13,32 @@ use Rattle.merging.proofs.merge.merge.Goals.{In-Buckets-2, In-Buckets-form_size-
 use Rattle.merging.proofs.merge.merge.Goals as goal
 
 -- the sizes of the three
-first : (c : In-Buckets-2) → Whole c.size-1.given.0.0 (body c.args.first.now)
+first : (c : In-Buckets-2) → Whole c.in-Buckets.size (body c.args.first.now)
 first c =
     let img = c.args.first.now in
-    form-whole img (size-some (size_of (length img - 64)) c.form_size.ensures c.size-1.given.1)
+    form-whole img (size-some (size_of (length img - 64)) c.form_size.ensures c.in-Buckets.is)
 
-second : (c : In-Buckets-form_size-3) → Whole c.other-1.given.0.0 (body c.args.second.now)
+second : (c : In-Buckets-form_size-3) → Whole c.in-Buckets-form_size.other (body c.args.second.now)
 second c =
     let img = c.args.second.now in
-    form-whole img (size-some (size_of (length img - 64)) c.form_size-2.ensures c.other-1.given.1)
+    form-whole img (size-some (size_of (length img - 64)) c.form_size-2.ensures c.in-Buckets-form_size.is)
 
-target : (c : In-Buckets-form_size-2-2) → Whole c.into-1.given.0.0 (body c.args.target.now)
+target : (c : In-Buckets-form_size-2-2) → Whole c.in-Buckets-form_size-2.into (body c.args.target.now)
 target c =
     let img = c.args.target.now in
-    form-whole img (size-some (size_of (length img - 64)) c.form_size-3.ensures c.into-1.given.1)
+    form-whole img (size-some (size_of (length img - 64)) c.form_size-3.ensures c.in-Buckets-form_size-2.is)
 
 pub returns-in_default : goal.returns-in_default
 unfolding merge_of
 returns-in_default c =
     let img = c.args.first.now in
-    rw (form-none img (size_none (size_of (length img - 64)) c.form_size.ensures c.enum_told-1.given.1)) record { answer = refl; bytes = refl }
+    rw (form-none img (size_none (size_of (length img - 64)) c.form_size.ensures c.in_default.is)) record { answer = refl; bytes = refl }
 
 pub returns-in_default-form_size : goal.returns-in_default-form_size
 unfolding merge_of
 returns-in_default-form_size c =
     let img = c.args.second.now in
-    rw (whole-sized (first (goal.at.returns-in_default-form_size c).In-Buckets-2), form-none img (size_none (size_of (length img - 64)) c.form_size-2.ensures c.enum_told-in_default-form_size-1.given.1))
+    rw (whole-sized (first (goal.at.returns-in_default-form_size c).In-Buckets-2), form-none img (size_none (size_of (length img - 64)) c.form_size-2.ensures c.in_default-form_size.is))
     record { answer = refl; bytes = refl }
 
 pub returns-in_default-form_size-2 : goal.returns-in_default-form_size-2
@@ -48,7 +48,7 @@ returns-in_default-form_size-2 c =
     rw (
       whole-sized (first (goal.at.returns-in_default-form_size-2 c).In-Buckets-2),
       whole-sized (second (goal.at.returns-in_default-form_size-2 c).In-Buckets-form_size-3),
-      form-none img (size_none (size_of (length img - 64)) c.form_size-3.ensures c.enum_told-in_default-form_size-2-1.given.1),
+      form-none img (size_none (size_of (length img - 64)) c.form_size-3.ensures c.in_default-form_size-2.is),
     ) record { answer = refl; bytes = refl }
 
 pub returns-then-size-other : goal.returns-then-size-other
@@ -58,7 +58,7 @@ returns-then-size-other c =
       whole-sized (first (goal.at.returns-then-size-other c).In-Buckets-2),
       whole-sized (second (goal.at.returns-then-size-other c).In-Buckets-form_size-3),
       whole-sized (target (goal.at.returns-then-size-other c).In-Buckets-form_size-2-2),
-      ne_eqb c.size-1.given.0.0 c.other-1.given.0.0 c.if-size-other.true,
+      ne_eqb c.in-Buckets.size c.in-Buckets-form_size.other c.if-size-other.true,
     ) record { answer = refl; bytes = refl }
 
 pub returns-then-size-into : goal.returns-then-size-into
@@ -68,8 +68,8 @@ returns-then-size-into c =
       whole-sized (first (goal.at.returns-then-size-into c).In-Buckets-2),
       whole-sized (second (goal.at.returns-then-size-into c).In-Buckets-form_size-3),
       whole-sized (target (goal.at.returns-then-size-into c).In-Buckets-form_size-2-2),
-      eq-eqb c.size-1.given.0.0 c.other-1.given.0.0 c.if-size-other.false,
-      ne_eqb c.size-1.given.0.0 c.into-1.given.0.0 c.if-size-into.true,
+      eq-eqb c.in-Buckets.size c.in-Buckets-form_size.other c.if-size-other.false,
+      ne_eqb c.in-Buckets.size c.in-Buckets-form_size-2.into c.if-size-into.true,
     ) record { answer = refl; bytes = refl }
 
 pub merge_sized-requires : goal.merge_sized-requires
@@ -83,6 +83,6 @@ returns c =
       whole-sized (first (goal.at.returns c).In-Buckets-2),
       whole-sized (second (goal.at.returns c).In-Buckets-form_size-3),
       whole-sized (target (goal.at.returns c).In-Buckets-form_size-2-2),
-      eq-eqb c.size-1.given.0.0 c.other-1.given.0.0 c.if-size-other.false,
-      eq-eqb c.size-1.given.0.0 c.into-1.given.0.0 c.if-size-into.false,
+      eq-eqb c.in-Buckets.size c.in-Buckets-form_size.other c.if-size-other.false,
+      eq-eqb c.in-Buckets.size c.in-Buckets-form_size-2.into c.if-size-into.false,
     ) c.merge_sized.ensures

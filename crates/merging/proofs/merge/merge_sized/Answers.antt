@@ -14,28 +14,28 @@ use Rattle.merging.proofs.merge.merge_sized.Goals as goal
 
 -- what the tails tell
 mine : (c : In-Good-2) → let a = c.args in
-    headed known a.size a.first.now ≡ accepted (header_of a.size c.mine-1.given.0.0.total c.mine-1.given.0.0.changes)
+    headed known a.size a.first.now ≡ accepted (header_of a.size c.in-Good.mine.total c.in-Good.mine.changes)
 mine c =
     let a = c.args in
-    tail-good a.size a.first.now c.tail_at.ensures c.mine-1.given.1
+    tail-good a.size a.first.now c.tail_at.ensures c.in-Good.is
 
 theirs : (c : In-Good-tail_at-2) → let a = c.args in
-    headed known a.size a.second.now ≡ accepted (header_of a.size c.theirs-1.given.0.0.total c.theirs-1.given.0.0.changes)
+    headed known a.size a.second.now ≡ accepted (header_of a.size c.in-Good-tail_at.theirs.total c.in-Good-tail_at.theirs.changes)
 theirs c =
     let a = c.args in
-    tail-good a.size a.second.now c.tail_at-2.ensures c.theirs-1.given.1
+    tail-good a.size a.second.now c.tail_at-2.ensures c.in-Good-tail_at.is
 
 pub returns-in_default : goal.returns-in_default
 unfolding merge_sized_of
 returns-in_default c =
     let a = c.args in
-    rw (tail-bad a.size a.first.now c.tail_at.ensures c.enum_told-1.given.1) record { answer = refl; bytes = refl }
+    rw (tail-bad a.size a.first.now c.tail_at.ensures c.in_default.is) record { answer = refl; bytes = refl }
 
 pub returns-in_default-tail_at : goal.returns-in_default-tail_at
 unfolding merge_sized_of
 returns-in_default-tail_at c =
     let a = c.args in
-    rw (mine (goal.at.returns-in_default-tail_at c).In-Good-2, tail-bad a.size a.second.now c.tail_at-2.ensures c.enum_told-in_default-tail_at-1.given.1) record { answer = refl; bytes = refl }
+    rw (mine (goal.at.returns-in_default-tail_at c).In-Good-2, tail-bad a.size a.second.now c.tail_at-2.ensures c.in_default-tail_at.is) record { answer = refl; bytes = refl }
 
 pub overflow_sub-end : goal.overflow_sub-end
 overflow_sub-end c = whole_long c.args.first.now c.requires.0

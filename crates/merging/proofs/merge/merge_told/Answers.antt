@@ -16,13 +16,13 @@ use Rattle.merging.proofs.merge.merge_told.Goals as goal
 first : (c : In-Accepted) → let a = c.args in checked_by (header_of a.size a.mine 0) a.first.now ≡ accepted tt
 first c =
     let a = c.args in
-    total-passed (header_of a.size a.mine 0) a.first.now c.check_total.ensures c.enum_told-1.given.1
+    total-passed (header_of a.size a.mine 0) a.first.now c.check_total.ensures c.in-Accepted.is
 
 second : (c : In-Accepted-check_total) → let a = c.args in
     checked_by (header_of a.size a.theirs 0) a.second.now ≡ accepted tt
 second c =
     let a = c.args in
-    total-passed (header_of a.size a.theirs 0) a.second.now c.check_total-in-Accepted.ensures c.enum_told-in-Accepted-check_total-1.given.1
+    total-passed (header_of a.size a.theirs 0) a.second.now c.check_total-in-Accepted.ensures c.in-Accepted-check_total.is
 
 pub overflow_add-mine : goal.overflow_add-mine
 unfolding slots fronts backyards
@@ -45,7 +45,7 @@ returns-in-Refused c =
     let a = c.args in
     let h = header_of a.size a.mine 0 in
     check-refuses h a.first.now (fresh_form layout1 1 a.size) a.target.now _
-    (total-refused h a.first.now c.check_total.ensures c.why-1.given.1)
+    (total-refused h a.first.now c.check_total.ensures c.in-Refused.is)
 
 pub returns-in-Refused-check_total : goal.returns-in-Refused-check_total
 unfolding merged_by
@@ -54,7 +54,7 @@ returns-in-Refused-check_total c =
     let h = header_of a.size a.theirs 0 in
     rw (first (goal.at.returns-in-Refused-check_total c).In-Accepted)
     (check-refuses h a.second.now (fresh_form layout1 1 a.size) a.target.now _
-    (total-refused h a.second.now c.check_total-in-Accepted.ensures c.why-in-Refused-check_total-2-1.given.1))
+    (total-refused h a.second.now c.check_total-in-Accepted.ensures c.in-Refused-check_total.is))
 
 pub returns-in-Accepted-check_total : goal.returns-in-Accepted-check_total
 unfolding merged_by

@@ -17,11 +17,11 @@ write_form-requires c =
 pub returns-in-Refused : goal.returns-in-Refused
 returns-in-Refused c =
     let a = c.args in
-    move-refused (attach_at a.size a.old.now) a.target.now c.why-1.given.0.0
-    (rw (check-refused layout1 a.size a.old.now c.check_sized.ensures c.why-1.given.1))
+    move-refused (attach_at a.size a.old.now) a.target.now c.in-Refused.why
+    (rw (check-refused layout1 a.size a.old.now c.check_sized.ensures c.in-Refused.is))
 
 pub returns-in-Members : goal.returns-in-Members
 returns-in-Members c =
     let a = c.args in
-    let p = check-counted layout1 a.size a.old.now c.check_sized.ensures c.members-1.given.1 in
+    let p = check-counted layout1 a.size a.old.now c.check_sized.ensures c.in-Members.is in
     rw (p.0, p.1) record { answer = refl; bytes = c.write_form.ensures }

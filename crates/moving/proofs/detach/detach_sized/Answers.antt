@@ -13,7 +13,7 @@ pub returns-in_default : goal.returns-in_default
 returns-in_default c =
     let a = c.args in
     move-refused (detach_at a.size a.image.now) a.target.now BadTail
-    (rw (tail-bad a.size a.image.now c.tail_at.ensures c.enum_told-1.given.1))
+    (rw (tail-bad a.size a.image.now c.tail_at.ensures c.in_default.is))
 
 pub overflow_sub-end : goal.overflow_sub-end
 overflow_sub-end c = whole_long c.args.image.now c.requires.0
@@ -30,4 +30,4 @@ pub returns : goal.returns
 unfolding body checked_by
 returns c =
     let a = c.args in
-    rw (tail-good a.size a.image.now c.tail_at.ensures c.tail-1.given.1) c.detach_told.ensures
+    rw (tail-good a.size a.image.now c.tail_at.ensures c.in-Good.is) c.detach_told.ensures

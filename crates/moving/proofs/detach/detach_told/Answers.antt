@@ -10,11 +10,11 @@ pub returns-in-Refused : goal.returns-in-Refused
 returns-in-Refused c =
     let a = c.args in
     let h = header_of a.size a.total 0 in
-    move-refused (body_checked h a.b.now) a.target.now c.why-1.given.0.0
-    (rw (total-refused h a.b.now c.check_total.ensures c.why-1.given.1))
+    move-refused (body_checked h a.b.now) a.target.now c.in-Refused.why
+    (rw (total-refused h a.b.now c.check_total.ensures c.in-Refused.is))
 
 pub returns-in-Accepted : goal.returns-in-Accepted
 returns-in-Accepted c =
     let a = c.args in
-    rw (total-passed (header_of a.size a.total 0) a.b.now c.check_total.ensures c.enum_told-1.given.1)
+    rw (total-passed (header_of a.size a.total 0) a.b.now c.check_total.ensures c.in-Accepted.is)
     record { answer = refl; bytes = c.copy_bytes.ensures }

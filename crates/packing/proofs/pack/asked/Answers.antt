@@ -9,9 +9,9 @@ use Rattle.packing.proofs.pack.asked.Goals.{After-struct_known-1}
 use Rattle.packing.proofs.pack.asked.Goals as goal
 
 -- the answer fits
-small : (c : After-struct_known-1) → let a = c.given-1.given.0.0 in
+small : (c : After-struct_known-1) → let a = c.in-Accepted.found in
     ask_word (record { reads = a.reads; place = place_of a.place; copies = a.copies }) < 2 ^ 56
-small c = within-accepted (rw c.given-1.given.1 at c.requires)
+small c = within-accepted (rw c.in-Accepted.is at c.requires)
 
 pub place_word-requires : goal.place_word-requires
 place_word-requires c = omega (arith, small c)
@@ -26,7 +26,7 @@ pub overflow_add-result : goal.overflow_add-result
 overflow_add-result c = rw c.place_word.ensures (omega (arith, small (goal.at.overflow_add-result c).After-struct_known-1))
 
 pub returns-in-Accepted : goal.returns-in-Accepted
-returns-in-Accepted c = rw (c.given-1.given.1, c.place_word.ensures)
+returns-in-Accepted c = rw (c.in-Accepted.is, c.place_word.ensures)
 
 pub returns-in-Refused : goal.returns-in-Refused
-returns-in-Refused c = c.refused.ensures ∙ rw c.given-in-Refused-1.given.1
+returns-in-Refused c = c.refused.ensures ∙ rw c.in-Refused.is

@@ -5,13 +5,13 @@ use Rattle.packing.proofs.ResultLaws.{within-accepted}
 use Rattle.packing.proofs.pack.paged.Goals as goal
 
 pub overflow_mul-result : goal.overflow_mul-result
-overflow_mul-result c = omega (arith, within-accepted (rw c.given-1.given.1 at c.requires))
+overflow_mul-result c = omega (arith, within-accepted (rw c.in-Accepted.is at c.requires))
 
 pub overflow_add-result : goal.overflow_add-result
-overflow_add-result c = omega (arith, within-accepted (rw c.given-1.given.1 at c.requires))
+overflow_add-result c = omega (arith, within-accepted (rw c.in-Accepted.is at c.requires))
 
 pub returns-in-Accepted : goal.returns-in-Accepted
-returns-in-Accepted c = rw c.given-1.given.1
+returns-in-Accepted c = rw c.in-Accepted.is
 
 pub returns-in-Refused : goal.returns-in-Refused
-returns-in-Refused c = c.refused.ensures ∙ rw c.given-in-Refused-1.given.1
+returns-in-Refused c = c.refused.ensures ∙ rw c.in-Refused.is

@@ -15,7 +15,7 @@ stored (a ∷ b ∷ out) n m h = refl
 
 pub returns-then-out-lt2 : goal.returns-then-out-lt2
 returns-then-out-lt2 c =
-    let g = c.given-1.given.1 in
+    let g = c.in-Accepted.is in
     let h = lt-ltb _ _ c.if-out-lt2.true in
     (c.refused.ensures ∙ rw (g, h), rw (g, h))
 
@@ -27,4 +27,4 @@ returns-else-out-lt2 c =
     (rw (g.1, h), rw (g.1, h) (stored out g.0.0.total g.0.0.changes c.if-out-lt2.false))
 
 pub returns-in-Refused : goal.returns-in-Refused
-returns-in-Refused c = let g = c.given-in-Refused-1.given.1 in (c.refused-in-Refused.ensures ∙ rw g, rw g)
+returns-in-Refused c = let g = c.in-Refused.is in (c.refused-in-Refused.ensures ∙ rw g, rw g)

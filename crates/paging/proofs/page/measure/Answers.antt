@@ -12,10 +12,10 @@ use Rattle.paging.proofs.page.measure.Goals as goal
 
 -- the bucket at hand was read and counted
 counted : (c : In-Members) → let a = c.args in let f = c.loop-f.f in
-    MembersRead layout1 a.size f a.image.now × (length (members_in layout1 a.size f a.image.now) ≡ c.n-1.given.0.0)
+    MembersRead layout1 a.size f a.image.now × (length (members_in layout1 a.size f a.image.now) ≡ c.in-Members.n)
 counted c =
     let a = c.args in
-    count-members layout1 a.size c.loop-f.f a.image.now c.count_members.ensures c.n-1.given.1
+    count-members layout1 a.size c.loop-f.f a.image.now c.count_members.ensures c.in-Members.is
 
 pub loop-f-init : goal.loop-f-init
 loop-f-init c =
@@ -27,8 +27,8 @@ count_members-requires c = let p = c.requires in record { whole = p.0; front = o
 pub returns-in-Unsound : goal.returns-in-Unsound
 returns-in-Unsound c =
     let a = c.args in
-    measured-unsound c.loop-f.invariant (omega arith) c.table-1.given.0.0
-    (count-refused layout1 a.size c.loop-f.f a.image.now c.count_members.ensures c.table-1.given.1)
+    measured-unsound c.loop-f.invariant (omega arith) c.in-Unsound.table
+    (count-refused layout1 a.size c.loop-f.f a.image.now c.count_members.ensures c.in-Unsound.is)
 
 pub returns-then-left-n : goal.returns-then-left-n
 returns-then-left-n c =

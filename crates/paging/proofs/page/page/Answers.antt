@@ -11,8 +11,8 @@ use Rattle.tails.proofs.CallLaws.{body-long, body-whole}
 use Rattle.paging.proofs.page.page.Goals.{In-At, In-At-2}
 use Rattle.paging.proofs.page.page.Goals as goal
 
-opens : (c : In-At) → Opens c.opened-1.given.0.0 c.args.image.now
-opens c = said-open c.args.image.now c.open_image.ensures c.opened-1.given.1
+opens : (c : In-At) → Opens c.in-At.opened c.args.image.now
+opens c = said-open c.args.image.now c.open_image.ensures c.in-At.is
 
 pub slice_bounds-page_opened-end : goal.slice_bounds-page_opened-end
 slice_bounds-page_opened-end c = body-long (opens (goal.at.slice_bounds-page_opened-end c).In-At-2)
@@ -24,9 +24,9 @@ pub returns-in-Refused : goal.returns-in-Refused
 unfolding page_of
 returns-in-Refused c =
     let a = c.args in
-    rw (then-shut a.image.now c.why-1.given.0.0
+    rw (then-shut a.image.now c.in-Refused.why
     (λ h. unchanged h.tail.changes a.changes (M.page_of h.layout (body a.image.now) a.start (length a.out.now)))
-    (said-shut a.image.now c.open_image.ensures c.why-1.given.1)) (record { answer = refl; bytes = refl })
+    (said-shut a.image.now c.open_image.ensures c.in-Refused.is)) (record { answer = refl; bytes = refl })
 
 pub returns-in-At : goal.returns-in-At
 unfolding page_of

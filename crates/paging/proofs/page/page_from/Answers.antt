@@ -10,11 +10,11 @@ use Rattle.paging.proofs.page.page_from.Goals as goal
 
 -- the run that was measured
 ran : (c : In-Next) → let a = c.args in
-    Ran layout1 a.size a.start (fronts a.size) (length a.out.now) a.image.now c.next-1.given.0.0
+    Ran layout1 a.size a.start (fronts a.size) (length a.out.now) a.image.now c.in-Next.next
 unfolding fronts
 ran c =
     let a = c.args in
-    end-next layout1 a.size a.start (fronts a.size) (length a.out.now) a.image.now c.measure.ensures c.next-1.given.1
+    end-next layout1 a.size a.start (fronts a.size) (length a.out.now) a.image.now c.measure.ensures c.in-Next.is
 
 pub measure-requires : goal.measure-requires
 unfolding fronts
@@ -34,12 +34,12 @@ unfolding fronts
 returns-in-Unsound c =
     page-unsound layout1 c.args.size c.args.start c.args.image.now c.args.out.now c.requires.1
     (end-unsound layout1 c.args.size c.args.start (fronts c.args.size) (length c.args.out.now) c.args.image.now c.measure.ensures
-    c.table-1.given.1)
+    c.in-Unsound.is)
 
 pub returns-after-next-start : goal.returns-after-next-start
 unfolding fronts
 returns-after-next-start c =
-    let on = moves c.next-1.given.0.0 c.args.start (fronts c.args.size)
+    let on = moves c.in-Next.next c.args.start (fronts c.args.size)
     (λ e d. ⊎_elim (λ w. omega arith) (λ w. omega arith) c.if-next-start.came) in
     page-written layout1 c.args.size c.args.start c.args.image.now c.args.out.now c.requires.1 (ran (goal.at.returns-after-next-start c).In-Next) on
     c.write_run.ensures

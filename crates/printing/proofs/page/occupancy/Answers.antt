@@ -10,8 +10,8 @@ use Rattle.tails.proofs.CallLaws.{body-long, body-whole, body_call}
 use Rattle.printing.proofs.page.occupancy.Goals.{In-At, In-At-2}
 use Rattle.printing.proofs.page.occupancy.Goals as goal
 
-opens : (c : In-At) → Opens c.opened-1.given.0.0 c.args.image.now
-opens c = said-open c.args.image.now c.open_image.ensures c.opened-1.given.1
+opens : (c : In-At) → Opens c.in-At.opened c.args.image.now
+opens c = said-open c.args.image.now c.open_image.ensures c.in-At.is
 
 pub slice_bounds-print_sized-end : goal.slice_bounds-print_sized-end
 slice_bounds-print_sized-end c = body-long (opens (goal.at.slice_bounds-print_sized-end c).In-At-2)
@@ -23,8 +23,8 @@ pub returns-in-Refused : goal.returns-in-Refused
 unfolding occupancy_of
 returns-in-Refused c =
     let a = c.args in
-    rw (then-shut a.image.now c.why-1.given.0.0 (λ h. O.occupancy_of h.layout (body a.image.now) a.page (length a.out.now))
-    (said-shut a.image.now c.open_image.ensures c.why-1.given.1)) (record { answer = refl; bytes = refl })
+    rw (then-shut a.image.now c.in-Refused.why (λ h. O.occupancy_of h.layout (body a.image.now) a.page (length a.out.now))
+    (said-shut a.image.now c.open_image.ensures c.in-Refused.is)) (record { answer = refl; bytes = refl })
 
 pub returns-in-At : goal.returns-in-At
 unfolding occupancy_of

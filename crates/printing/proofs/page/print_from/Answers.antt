@@ -19,7 +19,7 @@ room = page_lines * most_members layout1
 all_read : (c : In-Next) → let a = c.args in LinesRead layout1 a.size a.image.now page_lines a.start
 all_read c =
     let e = c.end_of-end in
-    let r = end-next layout1 c.args.size c.args.start e.result room c.args.image.now c.measure.ensures c.enum_told-1.given.1 in
+    let r = end-next layout1 c.args.size c.args.start e.result room c.args.image.now c.measure.ensures c.in-Next.is in
     ran-lines layout1 c.args.size c.args.image.now c.args.start page_lines e.result room _ e.ensures c.requires.1 (omega arith) r
 
 lines : (c : In-Next) → let a = c.args in
@@ -48,7 +48,7 @@ returns-in-Unsound c =
     page-refused layout1 c.args.size c.args.start c.args.image.now c.args.out.now
     (run-refused layout1 c.args.size c.args.image.now (e.result - c.args.start) page_lines c.args.start room _
     (omega (arith, e.ensures)) (omega (arith, c.requires.1, e.ensures))
-    (end-unsound layout1 c.args.size c.args.start e.result room c.args.image.now c.measure.ensures c.table-1.given.1))
+    (end-unsound layout1 c.args.size c.args.start e.result room c.args.image.now c.measure.ensures c.in-Unsound.is))
 
 pub returns-else-out-lt-PAGE_BYTES : goal.returns-else-out-lt-PAGE_BYTES
 returns-else-out-lt-PAGE_BYTES c =

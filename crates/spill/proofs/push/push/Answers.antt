@@ -36,25 +36,25 @@ taker-requires c = holding-few (hold c)
 
 pub put_behind-requires : goal.put_behind-requires
 put_behind-requires c =
-    let t = taking-first c.taker.ensures c.enum_told-in-First-1.given.1 in
+    let t = taking-first c.taker.ensures c.in-First.is in
     (c.requires.0, push-joinable (hold (goal.at.put_behind-requires c).After-count_back-n1) c.args.key true c.first_of-first.ensures t c.requires.2)
 
 pub put_behind-requires-in-Second : goal.put_behind-requires-in-Second
 put_behind-requires-in-Second c =
-    let t = taking-second c.taker.ensures c.enum_told-in-Second-1.given.1 in
+    let t = taking-second c.taker.ensures c.in-Second.is in
     (c.requires.0, push-joinable (hold (goal.at.put_behind-requires-in-Second c).After-count_back-n1) c.args.key false c.second_of-second.ensures t c.requires.2)
 
 pub returns-in-Full : goal.returns-in-Full
 returns-in-Full c =
     let h = hold (goal.at.returns-in-Full c).After-count_back-n1 in
-    (push-stuck h c.args.key (taking-full c.taker.ensures c.enum_told-1.given.1), h.read)
+    (push-stuck h c.args.key (taking-full c.taker.ensures c.in-Full.is), h.read)
 
 pub returns-in-First : goal.returns-in-First
 returns-in-First c =
     let h = hold (goal.at.returns-in-First c).After-count_back-n1 in
     let l = c.first_of-first.ensures in
     let x = c.args.key in
-    let t = taking-first c.taker.ensures c.enum_told-in-First-1.given.1 in
+    let t = taking-first c.taker.ensures c.in-First.is in
     rw c.put_behind.ensures (push-to h x true l t, push-keeps h x true l t fits1 c.requires.2)
 
 pub returns-in-Second : goal.returns-in-Second
@@ -62,5 +62,5 @@ returns-in-Second c =
     let h = hold (goal.at.returns-in-Second c).After-count_back-n1 in
     let l = c.second_of-second.ensures in
     let x = c.args.key in
-    let t = taking-second c.taker.ensures c.enum_told-in-Second-1.given.1 in
+    let t = taking-second c.taker.ensures c.in-Second.is in
     rw c.put_behind-in-Second.ensures (push-to h x false l t, push-keeps h x false l t fits1 c.requires.2)

@@ -17,16 +17,16 @@ use Rattle.tails.proofs.fresh.fresh.Goals.{After-clear_all, In-Buckets}
 use Rattle.tails.proofs.fresh.fresh.Goals as goal
 
 -- the size that was found
-sized : (c : In-Buckets) → Whole c.size-1.given.0.0 (body c.args.image.now)
+sized : (c : In-Buckets) → Whole c.in-Buckets.size (body c.args.image.now)
 sized c =
     let img = c.args.image.now in
-    form-whole img (size-some (size_of (length img - 64)) c.form_size.ensures c.size-1.given.1)
+    form-whole img (size-some (size_of (length img - 64)) c.form_size.ensures c.in-Buckets.is)
 
 pub returns-in_default : goal.returns-in_default
 unfolding fresh_of
 returns-in_default c =
     let img = c.args.image.now in
-    let n = form-none img (size_none (size_of (length img - 64)) c.form_size.ensures c.enum_told-1.given.1) in
+    let n = form-none img (size_none (size_of (length img - 64)) c.form_size.ensures c.in_default.is) in
     record { answer = rw n; bytes = rw n }
 
 pub overflow_sub-end : goal.overflow_sub-end
@@ -64,5 +64,5 @@ returns c =
       answer = rw e;
       bytes =
           end-written (length img - 64) c.clear_all.new.0 (drop (length img - 64) img) c.start_tail.new.0 (long (goal.at.returns c).After-clear_all)
-          ∙ rw (e, c.start_tail.ensures, c.clear_all.ensures, cleared-all layout1 empty-back1 c.size-1.given.0.0);
+          ∙ rw (e, c.start_tail.ensures, c.clear_all.ensures, cleared-all layout1 empty-back1 c.in-Buckets.size);
     }

@@ -11,15 +11,15 @@ use Rattle.tails.proofs.open.open_image.Goals.{In-Buckets}
 use Rattle.tails.proofs.open.open_image.Goals as goal
 
 -- the size that was found
-sized : (c : In-Buckets) → Whole c.size-1.given.0.0 (body c.args.image.now)
+sized : (c : In-Buckets) → Whole c.in-Buckets.size (body c.args.image.now)
 sized c =
     let img = c.args.image.now in
-    form-whole img (size-some (size_of (length img - 64)) c.form_size.ensures c.size-1.given.1)
+    form-whole img (size-some (size_of (length img - 64)) c.form_size.ensures c.in-Buckets.is)
 
 pub returns-in_default : goal.returns-in_default
 returns-in_default c =
     let img = c.args.image.now in
-    open-wrong img (size_none (size_of (length img - 64)) c.form_size.ensures c.enum_told-1.given.1)
+    open-wrong img (size_none (size_of (length img - 64)) c.form_size.ensures c.in_default.is)
 
 pub tail_at-requires : goal.tail_at-requires
 tail_at-requires c = sized c
@@ -30,7 +30,7 @@ overflow_sub-result c = whole_long c.args.image.now (sized (goal.at.overflow_sub
 pub returns-in-Bad : goal.returns-in-Bad
 returns-in-Bad c =
     let img = c.args.image.now in
-    open_by img (sized (goal.at.returns-in-Bad c).In-Buckets) ∙ tail-bad c.size-1.given.0.0 img c.tail_at.ensures c.enum_told-in-Bad-1.given.1
+    open_by img (sized (goal.at.returns-in-Bad c).In-Buckets) ∙ tail-bad c.in-Buckets.size img c.tail_at.ensures c.in-Bad.is
 
 pub returns-in-Good : goal.returns-in-Good
 returns-in-Good c =
@@ -39,5 +39,5 @@ returns-in-Good c =
       long = whole_long img (sized (goal.at.returns-in-Good c).In-Buckets);
       end = refl;
       whole = sized (goal.at.returns-in-Good c).In-Buckets;
-      header = tail-good c.size-1.given.0.0 img c.tail_at.ensures c.tail-1.given.1;
+      header = tail-good c.in-Buckets.size img c.tail_at.ensures c.in-Good.is;
     }

@@ -9,10 +9,10 @@ pub returns-in-Refused : goal.returns-in-Refused
 unfolding tail_of
 returns-in-Refused c =
     let img = c.args.image.now in
-    sym (then-shut img c.why-1.given.0.0 (λ h. accepted h.tail) (said-shut img c.open_image.ensures c.why-1.given.1))
+    sym (then-shut img c.in-Refused.why (λ h. accepted h.tail) (said-shut img c.open_image.ensures c.in-Refused.is))
 
 pub returns-in-At : goal.returns-in-At
 unfolding tail_of
 returns-in-At c =
     let img = c.args.image.now in
-    sym (then-opened (λ h. accepted h.tail) (said-open img c.open_image.ensures c.opened-1.given.1))
+    sym (then-opened (λ h. accepted h.tail) (said-open img c.open_image.ensures c.in-At.is))

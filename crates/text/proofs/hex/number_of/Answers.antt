@@ -19,18 +19,18 @@ pub returns-in_default : goal.returns-in_default
 returns-in_default c =
     let l = c.loop-i in
     let t = c.args.text.now in
-    let e = digit-none (digit_of (get_or t l.i 0)) (sym c.digit_of.ensures ∙ c.enum_told-1.given.1) in
+    let e = digit-none (digit_of (get_or t l.i 0)) (sym c.digit_of.ensures ∙ c.in_default.is) in
     rw (l.invariant.2 ∙ unhex-stopped l.i l.v t (omega arith) e)
 
 -- the digit that was read
 digit : (c : In-Number)
     → digit_of (get_or c.args.text.now
     c.loop-i.i 0)
-    ≡ some c.d-1.given.0.0
+    ≡ some c.in-Number.d
 digit c =
     let l = c.loop-i in
     let t = c.args.text.now in
-    digit-some (digit_of (get_or t l.i 0)) c.d-1.given.0.0 (sym c.digit_of.ensures ∙ c.d-1.given.1)
+    digit-some (digit_of (get_or t l.i 0)) c.in-Number.d (sym c.digit_of.ensures ∙ c.in-Number.is)
 
 pub overflow_mul-v : goal.overflow_mul-v
 overflow_mul-v c =
@@ -40,7 +40,7 @@ overflow_mul-v c =
 pub overflow_add-v : goal.overflow_add-v
 overflow_add-v c =
     let l = c.loop-i in
-    omega (arith, digit_room l.i l.v c.d-1.given.0.0 (omega arith) l.invariant.1 (digit_of-lt _ _ (digit c)))
+    omega (arith, digit_room l.i l.v c.in-Number.d (omega arith) l.invariant.1 (digit_of-lt _ _ (digit c)))
 
 pub loop-i-preserved : goal.loop-i-preserved
 loop-i-preserved c =

@@ -7,8 +7,8 @@ use Rattle.tails.proofs.CallLaws.{body-whole, body-long}
 use Rattle.validation.proofs.check.check.Goals.{In-At-1, In-At-2}
 use Rattle.validation.proofs.check.check.Goals as goal
 
-opens : (c : In-At-2) → Opens c.opened-1.given.0.0 c.args.image.now
-opens c = said-open c.args.image.now c.open_image.ensures c.opened-1.given.1
+opens : (c : In-At-2) → Opens c.in-At.opened c.args.image.now
+opens c = said-open c.args.image.now c.open_image.ensures c.in-At.is
 
 pub slice_bounds-check_total-end : goal.slice_bounds-check_total-end
 slice_bounds-check_total-end c = body-long (opens (goal.at.slice_bounds-check_total-end c).In-At-1)
@@ -19,7 +19,7 @@ check_total-requires c = body-whole (opens (goal.at.check_total-requires c).In-A
 pub returns-in-Refused : goal.returns-in-Refused
 unfolding check_of
 returns-in-Refused c =
-    rw (said-shut c.args.image.now c.open_image.ensures c.why-1.given.1)
+    rw (said-shut c.args.image.now c.open_image.ensures c.in-Refused.is)
 
 pub returns-in-At : goal.returns-in-At
 unfolding check_of checked_by

@@ -11,16 +11,16 @@ use Rattle.validation.proofs.check.check_sized.Goals.{In-Members-2, In-Members-c
 use Rattle.validation.proofs.check.check_sized.Goals as goal
 
 -- what was counted
-fronts-counted : (c : In-Members-2) → let a = c.args in FrontsCounted layout1 a.size a.image.now c.front-1.given.0.0
+fronts-counted : (c : In-Members-2) → let a = c.args in FrontsCounted layout1 a.size a.image.now c.in-Members.front
 fronts-counted c =
     let a = c.args in
-    fronts-told layout1 a.size a.image.now c.count_fronts.ensures c.front-1.given.1
+    fronts-told layout1 a.size a.image.now c.count_fronts.ensures c.in-Members.is
 
 backs-counted : (c : In-Members-count_backs-2) → let a = c.args in
-    BacksCounted layout1 a.size a.image.now c.back-1.given.0.0
+    BacksCounted layout1 a.size a.image.now c.in-Members-count_backs.back
 backs-counted c =
     let a = c.args in
-    backs-told layout1 a.size a.image.now c.count_backs.ensures c.back-1.given.1
+    backs-told layout1 a.size a.image.now c.count_backs.ensures c.in-Members-count_backs.is
 
 pub first_early-requires : goal.first_early-requires
 first_early-requires c =
@@ -35,13 +35,13 @@ pub returns-in-Unsound : goal.returns-in-Unsound
 unfolding counted_check check_sized
 returns-in-Unsound c =
     let a = c.args in
-    rw (fronts-unsound layout1 a.size a.image.now c.count_fronts.ensures c.table-1.given.1)
+    rw (fronts-unsound layout1 a.size a.image.now c.count_fronts.ensures c.in-Unsound.is)
 
 pub returns-in-Unsound-count_backs : goal.returns-in-Unsound-count_backs
 unfolding counted_check check_sized
 returns-in-Unsound-count_backs c =
     let a = c.args in
-    rw ((fronts-counted (goal.at.returns-in-Unsound-count_backs c).In-Members-2).0, backs-unsound layout1 a.size a.image.now c.count_backs.ensures c.table-in-Unsound-count_backs-1.given.1)
+    rw ((fronts-counted (goal.at.returns-in-Unsound-count_backs c).In-Members-2).0, backs-unsound layout1 a.size a.image.now c.count_backs.ensures c.in-Unsound-count_backs.is)
 
 pub returns-in-At : goal.returns-in-At
 unfolding counted_check check_sized
@@ -50,7 +50,7 @@ returns-in-At c =
     rw (
       (fronts-counted (goal.at.returns-in-At c).In-Members-2).0,
       (backs-counted (goal.at.returns-in-At c).In-Members-count_backs-2).0,
-      fault-some (early layout1 a.size (backyards a.size) 0 a.image.now) c.first_early.ensures c.table-in-At-1.given.1,
+      fault-some (early layout1 a.size (backyards a.size) 0 a.image.now) c.first_early.ensures c.in-At.is,
     )
 
 pub returns-in-Nowhere : goal.returns-in-Nowhere
@@ -60,7 +60,7 @@ returns-in-Nowhere c =
     rw (
       (fronts-counted (goal.at.returns-in-Nowhere c).In-Members-2).0,
       (backs-counted (goal.at.returns-in-Nowhere c).In-Members-count_backs-2).0,
-      fault-none (early layout1 a.size (backyards a.size) 0 a.image.now) c.first_early.ensures c.enum_told-1.given.1,
+      fault-none (early layout1 a.size (backyards a.size) 0 a.image.now) c.first_early.ensures c.in-Nowhere.is,
       (fronts-counted (goal.at.returns-in-Nowhere c).In-Members-2).1.many,
       (backs-counted (goal.at.returns-in-Nowhere c).In-Members-count_backs-2).1.many,
     )

@@ -12,25 +12,25 @@ use Rattle.validation.proofs.check.check_total.Goals as goal
 
 -- the body passed, and so many members were counted
 passed : (c : In-Members-2) → let a = c.args in
-    (check_sized layout1 a.size a.image.now ≡ accepted tt) × (members layout1 a.size a.image.now ≡ c.members-1.given.0.0)
+    (check_sized layout1 a.size a.image.now ≡ accepted tt) × (members layout1 a.size a.image.now ≡ c.in-Members.members)
 passed c =
     let a = c.args in
-    check-counted layout1 a.size a.image.now c.check_sized.ensures c.members-1.given.1
+    check-counted layout1 a.size a.image.now c.check_sized.ensures c.in-Members.is
 
 pub returns-in-Refused : goal.returns-in-Refused
 unfolding checked_by
 returns-in-Refused c =
     let a = c.args in
-    rw (check-refused layout1 a.size a.image.now c.check_sized.ensures c.why-1.given.1)
+    rw (check-refused layout1 a.size a.image.now c.check_sized.ensures c.in-Refused.is)
 
 pub returns-then-total-members : goal.returns-then-total-members
 unfolding checked_by
 returns-then-total-members c =
     let p = passed (goal.at.returns-then-total-members c).In-Members-2 in
-    rw (p.0, p.1, eq-eqb c.args.total c.members-1.given.0.0 c.if-total-members.true)
+    rw (p.0, p.1, eq-eqb c.args.total c.in-Members.members c.if-total-members.true)
 
 pub returns-else-total-members : goal.returns-else-total-members
 unfolding checked_by
 returns-else-total-members c =
     let p = passed (goal.at.returns-else-total-members c).In-Members-2 in
-    rw (p.0, p.1, ne_eqb c.args.total c.members-1.given.0.0 c.if-total-members.false)
+    rw (p.0, p.1, ne_eqb c.args.total c.in-Members.members c.if-total-members.false)

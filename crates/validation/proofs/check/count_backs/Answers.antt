@@ -25,10 +25,10 @@ within c = back_in c.requires (inside c)
 told : (c : In-Members-2) →
     let a = c.args in
     let j = c.loop-j.j in
-    BackRead layout1 a.size j a.image.now × (length (in_back layout1 a.size j a.image.now) ≡ c.n-1.given.0.0)
+    BackRead layout1 a.size j a.image.now × (length (in_back layout1 a.size j a.image.now) ≡ c.in-Members.n)
 told c =
     let a = c.args in
-    let t = back-told layout1 a.size c.loop-j.j 0 a.image.now c.sound_back_at.ensures c.n-1.given.1 in
+    let t = back-told layout1 a.size c.loop-j.j 0 a.image.now c.sound_back_at.ensures c.in-Members.is in
     (t.0, t.1)
 
 pub loop-j-init : goal.loop-j-init
@@ -48,7 +48,7 @@ returns-in_default c =
     let l = c.loop-j in
     rw c.table_of.ensures
     (back-stop layout1 a.size (backyards a.size) l.j a.image.now l.invariant.1 (inside (goal.at.returns-in_default c).In-loop-j)
-    (back-unsound layout1 a.size l.j 0 a.image.now c.sound_back_at.ensures c.enum_told-1.given.1))
+    (back-unsound layout1 a.size l.j 0 a.image.now c.sound_back_at.ensures c.in_default.is))
 
 pub overflow_add-members : goal.overflow_add-members
 overflow_add-members c =

@@ -22,9 +22,9 @@ inside c = omega arith
 told : (c : In-Members-2) →
     let img = c.args.image.now in
     let f = c.loop-f.f in
-    FrontRead layout1 f img × (length (in_front layout1 f img) ≡ c.n-1.given.0.0)
+    FrontRead layout1 f img × (length (in_front layout1 f img) ≡ c.in-Members.n)
 told c =
-    let t = front-told layout1 c.loop-f.f 0 c.args.image.now c.sound_front_at.ensures c.n-1.given.1 in
+    let t = front-told layout1 c.loop-f.f 0 c.args.image.now c.sound_front_at.ensures c.in-Members.is in
     (t.0, t.1)
 
 pub loop-f-init : goal.loop-f-init
@@ -38,7 +38,7 @@ returns-in_default c =
     let a = c.args in
     let l = c.loop-f in
     front-stop layout1 (fronts a.size) l.f a.image.now l.invariant.2 (inside (goal.at.returns-in_default c).In-loop-f)
-    (front-unsound layout1 l.f 0 a.image.now c.sound_front_at.ensures c.enum_told-1.given.1)
+    (front-unsound layout1 l.f 0 a.image.now c.sound_front_at.ensures c.in_default.is)
 
 pub overflow_sub-free : goal.overflow_sub-free
 overflow_sub-free c = let t = told (goal.at.overflow_sub-free c).In-Members-2 in omega (arith, t.1, t.0.list.room)
@@ -54,7 +54,7 @@ loop-f-preserved c =
     let a = c.args in
     let l = c.loop-f in
     let t = told (goal.at.loop-f-preserved c).In-Members-2 in
-    let n : (l.f + 1) * 28 - (l.free + (28 - c.n-1.given.0.0)) ≡ l.f * 28 - l.free + c.n-1.given.0.0 =
+    let n : (l.f + 1) * 28 - (l.free + (28 - c.in-Members.n)) ≡ l.f * 28 - l.free + c.in-Members.n =
     omega (arith, l.invariant.1, t.1, t.0.list.room) in (
       omega arith,
       omega (arith, l.invariant.1),
