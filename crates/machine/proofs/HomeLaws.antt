@@ -21,7 +21,7 @@ use Rattle.machine.specs.Checks.{home_in_turn, check_sized}
 use Rattle.machine.specs.Homes.{LeadsHome, AllLeadHome}
 use Rattle.machine.specs.Calls.{check_of}
 use Rattle.machine.proofs.AcceptedLaws.{was-sound}
-use Rattle.machine.proofs.CheckLaws.{in_turn-full, front-passed, back-passed, in_turn-passed}
+use Rattle.machine.proofs.CheckLaws.{in_turn-full, front-passed, back-passed, in-turn-passed}
 
 module _ (L : Layout) (B : ℕ) (img : List ℕ) (checked : check_sized L B img ≡ accepted tt) where
   front-order : (f : ℕ) → f < fronts B → T (ascending (in_front L f img))
@@ -55,7 +55,7 @@ module _ (L : Layout) (B : ℕ) (img : List ℕ) (checked : check_sized L B img 
   all-lead-home j h = (
     in_back L B j img,
     back-passed L B img checked j h,
-    λ y c. leads-home j y (home B j (y % 16)) refl (in_turn-passed L B img checked j y h c),
+    λ y c. leads-home j y (home B j (y % 16)) refl (in-turn-passed L B img checked j y h c),
   )
 
 -- so it is in every image that the call accepts, whatever the layout

@@ -1,12 +1,11 @@
 -- `words::select::in_half` meets its contract: the place stands in the constant of its half bytes (`half_place`).
 use mathlib.Core.Path.{◌≡◌, ◌∙◌, ap}
 use Prim.Native.Nat.{ℕ, ◌+◌, ◌*◌, ◌/◌, ◌%◌, ◌^◌, ◌<◌}
-use mathlib.Core.Logic.{⊎_elim}
 use native.Mathlib.Omega.{arith}
 use borrow.Author.Tests.{lt-ltb, le-ltb}
 use Rattle.words.proofs.SelectLaws.{ones-few}
 use Rattle.words.proofs.HalfLaws.{places, half_place}
-use Rattle.words.proofs.select.in_half.Goals.{Joined-half-lt8}
+use Rattle.words.proofs.select.in_half.Goals.{Joined-half-lt8, then-half-lt8, else-half-lt8}
 use Rattle.words.proofs.select.in_half.Goals as goal
 
 few : (c : Joined-half-lt8) → c.args.rank < 4
@@ -14,7 +13,10 @@ few c = omega (arith, c.requires.1, ones-few 4 c.args.half)
 
 -- the constant taken is that of the half byte
 taken : (c : Joined-half-lt8) → c.if-half-lt8.places ≡ places c.args.half
-taken c = ⊎_elim (λ h. rw (lt-ltb _ _ h.0.taken) h.1) (λ h. rw (le-ltb _ _ h.0.left) h.1) c.if-half-lt8.branch
+taken c = elim c.if-half-lt8.branch [
+  | then-half-lt8 w ↦ rw (lt-ltb _ _ w.if-half-lt8.true) w.places-is
+  | else-half-lt8 w ↦ rw (le-ltb _ _ w.if-half-lt8.false) w.places-is
+]
 
 pub returns : goal.returns
 returns c =
