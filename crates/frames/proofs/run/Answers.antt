@@ -33,7 +33,7 @@ print-requires c = c.finish-n.ensures.room
 
 pub shape_of-image : goal.shape_of-image
 shape_of-image c =
-    c.finish-n.auto.0 ∙ c.loop-turns.invariant.0 ∙ sym c.requires.0.image
+    c.finish-n.auto.image ∙ c.loop-turns.invariant.0 ∙ sym c.requires.0.image
 
 pub shape_of-line : goal.shape_of-line
 shape_of-line c =
@@ -41,7 +41,7 @@ shape_of-line c =
 
 pub shape_of-out : goal.shape_of-out
 shape_of-out c =
-    c.finish-n.auto.1.1.1.0 ∙ c.loop-turns.invariant.2 ∙ sym c.requires.0.text
+    c.finish-n.auto.out ∙ c.loop-turns.invariant.2 ∙ sym c.requires.0.text
 
 pub returns : goal.returns
 returns c =

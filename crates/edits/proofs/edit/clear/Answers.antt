@@ -7,5 +7,5 @@ use Rattle.edits.proofs.edit.clear.Goals as goal
 pub returns : goal.returns
 returns c =
     let b = c.args.b.now in
-    let zeros = c.fill.new.0 in
+    let zeros = c.fill.new.s in
     c.put_word.ensures ∙ word-put b zeros 64 68719476735 (omega arith) (omega arith) ∙ cleared b zeros c.requires c.fill.ensures

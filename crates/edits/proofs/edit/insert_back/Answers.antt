@@ -39,8 +39,8 @@ pub returns : goal.returns
 returns c =
     let b = c.args.b.now in
     let x = c.args.member in
-    let new = c.insert_slot.new.0 in
-    back-inserted layout1 fits1 b (below-bytes b c.slice_known-1.given) c.requires.sound x new c.insert_crumb.new.0 c.requires.range c.requires.free
+    let new = c.insert_slot.new.b in
+    back-inserted layout1 fits1 b (below-bytes b c.slice_known-1.given) c.requires.sound x new c.insert_crumb.new.s c.requires.range c.requires.free
     (c.insert_slot.ensures ∙ ap (λ (k : ℕ). slot_inserted layout1 word_bytes1 (slot_end layout1 layout1.back_slots) k (x / 16) b) c.requires.rank)
     (c.insert_crumb.ensures
     ∙ ap (λ (k : ℕ). crumb_inserted k (x % 16) (take (crumb_room layout1) (drop (slot_end layout1 layout1.back_slots) new))) c.requires.rank)

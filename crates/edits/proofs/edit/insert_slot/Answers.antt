@@ -17,6 +17,6 @@ unfolding slot_inserted
 returns c =
     let bit = c.open_bit in
     let a = c.args in
-    c.put_word.ensures ∙ word-put a.b.now c.insert_tag.new.0 a.end bit.result (omega arith) (omega arith)
+    c.put_word.ensures ∙ word-put a.b.now c.insert_tag.new.s a.end bit.result (omega arith) (omega arith)
     ∙ ap₂ (λ (v : ℕ) (t : List ℕ). digits 256 word_bytes1 v ++ (t ++ drop a.end a.b.now))
     (bit.ensures ∙ ap (opened_at (a.key / tags layout1 + a.slot)) c.word_of-word.ensures) c.insert_tag.ensures

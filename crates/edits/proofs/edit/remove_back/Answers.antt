@@ -35,4 +35,4 @@ returns c =
     let a = c.args in
     let b = a.b.now in
     back-removed layout1 fits1 b (below-bytes b c.slice_known-1.given) c.requires.0 a.member a.slot c.requires.1 c.requires.2
-    c.remove_slot.new.0 c.remove_crumb.new.0 c.remove_slot.ensures c.remove_crumb.ensures
+    c.remove_slot.new.b c.remove_crumb.new.s c.remove_slot.ensures c.remove_crumb.ensures

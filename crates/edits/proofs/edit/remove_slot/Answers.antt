@@ -16,6 +16,6 @@ unfolding slot_removed
 returns c =
     let bit = c.close_bit in
     let a = c.args in
-    c.put_word.ensures ∙ word-put a.b.now c.remove_tag.new.0 a.end bit.result (omega arith) (omega arith)
+    c.put_word.ensures ∙ word-put a.b.now c.remove_tag.new.s a.end bit.result (omega arith) (omega arith)
     ∙ ap₂ (λ (v : ℕ) (t : List ℕ). digits 256 word_bytes1 v ++ (t ++ drop a.end a.b.now))
     (bit.ensures ∙ ap (closed_at (a.mini + a.slot)) c.word_of-word.ensures) c.remove_tag.ensures

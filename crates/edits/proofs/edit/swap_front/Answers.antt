@@ -23,8 +23,8 @@ rest-fits c =
     c.requires.inside c.requires.same
 
 rest-sound : (c : After-remove_front)
-    → SoundFront layout1 c.remove_front.new.0 × (front_list layout1 c.remove_front.new.0 ≡ rest c)
-rest-sound c = front-sound layout1 fits1 c.remove_front.new.0 (rest c) c.remove_front.ensures (rest-fits c).0
+    → SoundFront layout1 c.remove_front.new.b × (front_list layout1 c.remove_front.new.b ≡ rest c)
+rest-sound c = front-sound layout1 fits1 c.remove_front.new.b (rest c) c.remove_front.ensures (rest-fits c).0
 
 pub insert_front-requires : goal.insert_front-requires
 insert_front-requires c =

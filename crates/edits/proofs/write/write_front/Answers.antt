@@ -10,6 +10,6 @@ pub returns : goal.returns
 returns c =
     let b = c.args.b.now in
     let xs = c.args.keys.now in
-    let tags = c.put_tags.new.0 in
+    let tags = c.put_tags.new.s in
     c.put_word.ensures ∙ word-put b tags 64 c.word_for.result (omega arith) (omega arith)
     ∙ front_bytes-written layout1 refl b xs tags c.word_for.result c.requires.0 c.requires.1 c.word_for.ensures c.put_tags.ensures

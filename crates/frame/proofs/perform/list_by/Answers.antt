@@ -23,21 +23,21 @@ asked c = list_of c.args.image.now
 listed : (c : In-Accepted) → accepted (c.in-Accepted.n, c.in-Accepted.field-1) ≡ extent_of (asked c)
 listed c = rw c.in-Accepted.is at c.page_whole.ensures.answer
 
-written : (c : In-Accepted) → c.page_whole.new.1.0 ≡ output_of (asked c) c.args.entries.now
+written : (c : In-Accepted) → c.page_whole.new.entries ≡ output_of (asked c) c.args.entries.now
 written c = c.page_whole.ensures.bytes
 
 -- not more than there is room for
 few : (c : In-Accepted) → c.in-Accepted.n ≤ room
 few c =
     rw (sym c.requires.0)
-    (list-room (asked c) _ _ c.args.entries.now _ (listed c) (written c) c.page_whole.auto.1.0)
+    (list-room (asked c) _ _ c.args.entries.now _ (listed c) (written c) c.page_whole.auto.entries)
 
 pub slice_bounds-put_entries-end : goal.slice_bounds-put_entries-end
 slice_bounds-put_entries-end c = omega (arith, few (goal.at.slice_bounds-put_entries-end c).In-Accepted-2)
 
 pub put_entries-requires : goal.put_entries-requires
 put_entries-requires c =
-    omega (arith, few (goal.at.put_entries-requires c).In-Accepted-2, take-le (c.in-Accepted.n - 0) c.page_whole.new.1.0)
+    omega (arith, few (goal.at.put_entries-requires c).In-Accepted-2, take-le (c.in-Accepted.n - 0) c.page_whole.new.entries)
 
 pub overflow_mul-result : goal.overflow_mul-result
 overflow_mul-result c = omega (arith, few (goal.at.overflow_mul-result c).In-Accepted-2)

@@ -21,7 +21,7 @@ loop-i-preserved c =
     let l = c.loop-i in
     let e = front_bytes layout1 [] in (
       omega arith,
-      omega (arith, c.clear_at.auto.0),
+      omega (arith, c.clear_at.auto.image),
       c.clear_at.ensures ∙ ap (λ (x : List ℕ). put l.i e x) l.invariant.2 ∙ cleared_more l.i e
           c.args.image.now (length-front_bytes layout1 fits1 [] (omega arith)),
     )

@@ -74,7 +74,7 @@ slice_bounds-push_all-start : tie.Need-slice_bounds-push_all-start
 slice_bounds-push_all-start c = (enough c.before.before).0
 
 slice_bounds-push_all-end : tie.Need-slice_bounds-push_all-end
-slice_bounds-push_all-end c = let m = c.before.before in omega (arith, m.list_members-n.auto.1.1.1.0, (enough m).1)
+slice_bounds-push_all-end c = let m = c.before.before in omega (arith, m.list_members-n.auto.out, (enough m).1)
 
 push_all-requires : tie.Need-push_all-requires
 push_all-requires c κs =

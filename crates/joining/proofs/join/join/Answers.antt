@@ -56,4 +56,4 @@ returns c =
     let j = c.requires.1 in
     let e = c.fill_both-gone.ensures in
     join-full fits1 (target (goal.at.returns c).After-in_front-own) j.into j.first j.second c.in_front-own.result c.in_front-own.ensures e.2 e.1
-    c.push_all.result c.push_all.new.1.1.1.1.0 c.push_all.ensures.0 c.if-push_all.false
+    c.push_all.result c.push_all.new.target c.push_all.ensures.0 c.if-push_all.false

@@ -47,4 +47,4 @@ returns-then-add_behind c =
 pub returns : goal.returns
 returns c =
     take-full fits1 (target (goal.at.returns c).After-slice_known-1) c.requires.1.into (first (goal.at.returns c).After-slice_known-1) (second (goal.at.returns c).After-slice_known-1) c.requires.2 c.occupied_front.ensures.0 c.write_front_at.ensures
-    c.add_behind.result c.add_behind.new.1.1.1.1.0 c.add_behind.ensures.0 c.if-add_behind.false
+    c.add_behind.result c.add_behind.new.target c.add_behind.ensures.0 c.if-add_behind.false

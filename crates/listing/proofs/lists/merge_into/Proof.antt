@@ -43,7 +43,7 @@ first-room : (l : tie.At-loop-i invariant-loop-i decreases-loop-i) → let a = (
     i.i + i.j + (length a.a.now - i.i) ≤ length i.out
 first-room l = let i = l.loop-i.invariant in omega (arith, i.left, i.right, i.same, (start l).requires.2)
 
-first-same : (c : tie.After-copy_rest invariant-loop-i decreases-loop-i) → length c.copy_rest.new.1.1.0 ≡ length (start (ended c).before).args.out.now
+first-same : (c : tie.After-copy_rest invariant-loop-i decreases-loop-i) → length c.copy_rest.new.out ≡ length (start (ended c).before).args.out.now
 first-same c =
     let l = (ended c).before in
     copied-length c.copy_rest.ensures l.loop-i.invariant.left (first-room l) ∙ l.loop-i.invariant.same

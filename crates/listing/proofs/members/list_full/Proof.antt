@@ -37,7 +37,7 @@ lent : (s : tie.Start) → length (take layout1.front_slots s.args.out.now) ≡ 
 lent s = length-take-le layout1.front_slots s.args.out.now (omega (arith, s.requires.2))
 
 abbrev mid : tie.After-list_front-n → List ℕ
-mid c = c.list_front-n.new.1.0 ++ drop layout1.front_slots (start (mine c)).args.out.now
+mid c = c.list_front-n.new.out ++ drop layout1.front_slots (start (mine c)).args.out.now
 
 front : (c : tie.After-list_front-n) → let a = (start (mine c)).args in
     Listed (in_front layout1 a.front.0 a.image.now) a.out.now c.list_front-n.result (mid c)

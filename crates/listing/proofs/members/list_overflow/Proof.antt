@@ -38,7 +38,7 @@ few c =
     let s = start (first c) in
     omega (arith, c.list_bag-n.ensures.many, ap length (bag-is (first c).first_of.ensures layout1 s.args.image.now), bag-room s.requires.0.both true)
 
-same : (c : tie.After-list_bag-n) → length c.list_bag-n.new.1.1.1.0 ≡ length (start (first c)).args.out.now
+same : (c : tie.After-list_bag-n) → length c.list_bag-n.new.out ≡ length (start (first c)).args.out.now
 same c = listed_same c.list_bag-n.ensures (omega (arith, few c, (start (first c)).requires.1))
 
 fits : (c : tie.After-list_bag-m) → (listed1 (second c)).list_bag-n.result + c.list_bag-m.result ≤ most_behind layout1

@@ -8,7 +8,7 @@ use Rattle.merging.proofs.merge.merge_bodies.Goals.{After-clear_all}
 use Rattle.merging.proofs.merge.merge_bodies.Goals as goal
 
 -- the target was made fresh
-emptied : (c : After-clear_all) → c.clear_all.new.0 ≡ empty_image layout1 c.args.size
+emptied : (c : After-clear_all) → c.clear_all.new.image ≡ empty_image layout1 c.args.size
 emptied c = c.clear_all.ensures ∙ cleared-all layout1 empty-back1 c.args.size
 
 pub clear_all-requires : goal.clear_all-requires

@@ -13,9 +13,9 @@ use Rattle.merging.proofs.merge.merge_checked.Goals.{After-merge_bodies}
 use Rattle.merging.proofs.merge.merge_checked.Goals as goal
 
 -- the body is as long as it was
-long : (c : After-merge_bodies) → length c.merge_bodies.new.1.1.1.0 ≡ length c.args.target.now - 64
+long : (c : After-merge_bodies) → length c.merge_bodies.new.target ≡ length c.args.target.now - 64
 unfolding body
-long c = c.merge_bodies.auto.1.1.1.0 ∙ length-body c.args.target.now
+long c = c.merge_bodies.auto.target ∙ length-body c.args.target.now
 
 pub overflow_sub-end : goal.overflow_sub-end
 overflow_sub-end c = whole_long c.args.target.now c.requires.1
@@ -41,7 +41,7 @@ returns-then-merge_bodies c =
     let now = c.merge_bodies.last.1.1.1.0 in
     let end = length old - 64 in
     fill-accepted layout1 1 a.size a.total a.first.now a.second.now old c.merge_bodies.result now c.merge_bodies.ensures c.if-merge_bodies.true
-    (end-written end now (drop end old) c.start_tail.new.0 (long (goal.at.returns-then-merge_bodies c).After-merge_bodies) ∙ rw c.start_tail.ensures)
+    (end-written end now (drop end old) c.start_tail.new.b (long (goal.at.returns-then-merge_bodies c).After-merge_bodies) ∙ rw c.start_tail.ensures)
 
 pub returns : goal.returns
 returns c =

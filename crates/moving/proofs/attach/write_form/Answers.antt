@@ -20,5 +20,5 @@ pub returns : goal.returns
 returns c =
     let a = c.args in
     let end = length a.b.now in
-    end-written end c.copy_bytes.new.1.0 (drop end a.target.now) c.start_tail.new.0 (ap length c.copy_bytes.ensures)
+    end-written end c.copy_bytes.new.to (drop end a.target.now) c.start_tail.new.b (ap length c.copy_bytes.ensures)
     ∙ rw (c.start_tail.ensures, c.copy_bytes.ensures)

@@ -21,7 +21,7 @@ slice_bounds-fill-end c = let l = c.loop-i in rw (length-set l.out (l.i - 1) (48
 -- the columns are all written
 whole : (c : After-slice_known-then-v-lt10-1) → let l = c.loop-i in
     let xs = set l.out (l.i - 1) (48 + l.v % 10) in let a = c.args in
-    put_mid 0 (l.i - 1 - 0) xs c.fill.new.0 ≡ aligned (length a.out.now) a.number
+    put_mid 0 (l.i - 1 - 0) xs c.fill.new.s ≡ aligned (length a.out.now) a.number
 whole c =
     let l = c.loop-i in
     let xs = set l.out (l.i - 1) (48 + l.v % 10) in

@@ -10,7 +10,7 @@ use Rattle.printing.proofs.line.put_line.Goals.{After-slice_known-5-1}
 use Rattle.printing.proofs.line.put_line.Goals as goal
 
 whole : (c : After-slice_known-5-1) → let a = c.args in
-    set (put_mid 13 28 c.put_column-3.new.0 c.put_bar.new.0) 41 10 ≡ line layout1 a.front a.near a.far
+    set (put_mid 13 28 c.put_column-3.new.out c.put_bar.new.out) 41 10 ≡ line layout1 a.front a.near a.far
 whole c =
     line-written layout1 c.args.front c.args.near c.args.far c.args.out.now _ _ _ _ c.requires.0 c.requires.1
     c.put_column.ensures c.put_column-2.ensures c.put_column-3.ensures c.put_bar.ensures

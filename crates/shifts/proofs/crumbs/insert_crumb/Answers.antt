@@ -20,6 +20,6 @@ returns c =
     let halves = crumb-inserted s v w c.requires.0 c.word_at-low.ensures c.word_at-high.ensures
     a.slot a.crumb c.carried.result c.low_lanes-n.result low high c.low_lanes-n.ensures
     c.carried.ensures.1 c.open_lane-new_low.ensures c.open_lane-new_high.ensures in
-    let bytes = crumbs-stored low high s c.put_at.new.0 c.put_at-2.new.0 c.requires.0 c.put_at.ensures c.put_at-2.ensures in
-    crumbs-written low high c.put_at-2.new.0 (inserted a.slot (a.crumb ∷ []) (spread 16 2 s)) bytes halves
+    let bytes = crumbs-stored low high s c.put_at.new.s c.put_at-2.new.s c.requires.0 c.put_at.ensures c.put_at-2.ensures in
+    crumbs-written low high c.put_at-2.new.s (inserted a.slot (a.crumb ∷ []) (spread 16 2 s)) bytes halves
     ∙ ap (λ (n : ℕ). grouped 16 2 n (inserted a.slot (a.crumb ∷ []) (spread 16 2 s))) (sym c.requires.0)

@@ -17,6 +17,6 @@ returns c =
     let halves = crumb-removed s v w c.requires.0 c.word_at-low.ensures c.word_at-high.ensures
     a.slot c.low_lanes-n.result low high c.requires.1 c.low_lanes-n.ensures (omega arith) (omega arith)
     c.blend-new_low.ensures c.blend-new_high.ensures in
-    let bytes = crumbs-stored low high s c.put_at.new.0 c.put_at-2.new.0 c.requires.0 c.put_at.ensures c.put_at-2.ensures in
-    crumbs-written low high c.put_at-2.new.0 (taken_out a.slot 1 (spread 16 2 s)) bytes halves
+    let bytes = crumbs-stored low high s c.put_at.new.s c.put_at-2.new.s c.requires.0 c.put_at.ensures c.put_at-2.ensures in
+    crumbs-written low high c.put_at-2.new.s (taken_out a.slot 1 (spread 16 2 s)) bytes halves
     ∙ ap (λ (n : ℕ). grouped 16 2 n (taken_out a.slot 1 (spread 16 2 s))) (sym c.requires.0)

@@ -4,4 +4,4 @@ use Rattle.shifts.proofs.lanes.put_at.Goals as goal
 
 pub returns : goal.returns
 returns c =
-    word-stored c.args.from c.args.word c.args.s.now c.put_word.new.0 c.requires c.put_word.ensures
+    word-stored c.args.from c.args.word c.args.s.now c.put_word.new.b c.requires c.put_word.ensures

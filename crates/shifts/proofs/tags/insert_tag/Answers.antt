@@ -58,7 +58,7 @@ loop-o-preserved c =
 
 pub shape_of-s : goal.shape_of-s
 shape_of-s c =
-    simp length-set (c.put_at-3.auto.0 ∙ c.put_at-2.auto.0 ∙ c.loop-o.invariant.6)
+    simp length-set (c.put_at-3.auto.s ∙ c.put_at-2.auto.s ∙ c.loop-o.invariant.6)
 
 pub returns : goal.returns
 returns c =
@@ -79,7 +79,7 @@ returns c =
     let low = first-up at read.result xs (digits 256 8 word.result) (omega arith) (read.ensures ∙ old) word.ensures in
     let high = up-part 2 xs (omega arith) at 8 last (length xs) xs (done a.slot xs) (digits 256 8 top.result)
     (omega arith) (omega arith) (omega arith) refl refl top.ensures in
-    let moved = up-last 8 end last xs l.s c.put_at-2.new.0 put.new.0 (digits 256 8 word.result) (digits 256 8 top.result)
+    let moved = up-last 8 end last xs l.s c.put_at-2.new.s put.new.0 (digits 256 8 word.result) (digits 256 8 top.result)
     (done a.slot xs) (length-done a.slot xs (omega arith)) (omega arith) (omega arith) (omega arith) (omega arith)
     reached low c.put_at-2.ensures high put.ensures in
     tag-stored at a.tag xs put.new.0 (omega arith) (omega arith) moved

@@ -30,7 +30,7 @@ loop-o-preserved c =
     )
 
 pub shape_of-s : goal.shape_of-s
-shape_of-s c = c.put_at-2.auto.0 ∙ c.loop-o.invariant.3
+shape_of-s c = c.put_at-2.auto.s ∙ c.loop-o.invariant.3
 
 pub returns : goal.returns
 returns c =

@@ -14,7 +14,7 @@ use Rattle.spill.proofs.fill.fill_both.Goals as goal
 
 -- the keys that are written
 written : (c : After-merge_into) →
-    take (c.settle-split.result.kept + c.settle-split.result.taken) c.merge_into.new.1.1.0
+    take (c.settle-split.result.kept + c.settle-split.result.taken) c.merge_into.new.out
     ≡ stays layout1.front_slots c.args.b.now c.args.a.now
 written c = settled-front c.settle-split.ensures _ _ c.merge_into.ensures
 

@@ -38,15 +38,15 @@ push-requires c =
 pub returns-then-not-push : goal.returns-then-not-push
 returns-then-not-push c =
     let e = c.push.ensures in
-    (sym (next (goal.at.returns-then-not-push c).After-push ∙ then-full c.push.result c.push.new.1.0 _ e.0 (not-true _ c.if-not-push.true)), e.1)
+    (sym (next (goal.at.returns-then-not-push c).After-push ∙ then-full c.push.result c.push.new.image _ e.0 (not-true _ c.if-not-push.true)), e.1)
 
 pub loop-i-preserved : goal.loop-i-preserved
 loop-i-preserved c =
     let e = c.push.ensures in (
       omega arith,
-      c.push.auto.1.0 ∙ c.loop-i.invariant.1,
+      c.push.auto.image ∙ c.loop-i.invariant.1,
       e.1,
-      next (goal.at.loop-i-preserved c).After-push ∙ then-on c.push.result c.push.new.1.0 _ e.0 (not-false _ c.if-not-push.false),
+      next (goal.at.loop-i-preserved c).After-push ∙ then-on c.push.result c.push.new.image _ e.0 (not-false _ c.if-not-push.false),
     )
 
 -- all keys are behind

@@ -46,14 +46,14 @@ pub clear_all-requires : goal.clear_all-requires
 unfolding body length_of
 clear_all-requires c = omega (arith, (sized (goal.at.clear_all-requires c).In-Buckets).long)
 
-long : (c : After-clear_all) → length c.clear_all.new.0 ≡ length c.args.image.now - 64
+long : (c : After-clear_all) → length c.clear_all.new.image ≡ length c.args.image.now - 64
 unfolding body
 long c = omega (arith, c.clear_all.auto, length-body c.args.image.now)
 
 pub start_tail-requires : goal.start_tail-requires
 start_tail-requires c =
     let img = c.args.image.now in
-    rw (end-lent (length img - 64) c.clear_all.new.0 (drop (length img - 64) img) (long (goal.at.start_tail-requires c).After-clear_all), rest_part img refl) (length_rest img (whole_long img (sized (goal.at.start_tail-requires c).In-Buckets)))
+    rw (end-lent (length img - 64) c.clear_all.new.image (drop (length img - 64) img) (long (goal.at.start_tail-requires c).After-clear_all), rest_part img refl) (length_rest img (whole_long img (sized (goal.at.start_tail-requires c).In-Buckets)))
 
 pub returns : goal.returns
 unfolding fresh_of
@@ -63,6 +63,6 @@ returns c =
     record {
       answer = rw e;
       bytes =
-          end-written (length img - 64) c.clear_all.new.0 (drop (length img - 64) img) c.start_tail.new.0 (long (goal.at.returns c).After-clear_all)
+          end-written (length img - 64) c.clear_all.new.image (drop (length img - 64) img) c.start_tail.new.b (long (goal.at.returns c).After-clear_all)
           ∙ rw (e, c.start_tail.ensures, c.clear_all.ensures, cleared-all layout1 empty-back1 c.in-Buckets.size);
     }

@@ -16,7 +16,7 @@ loop-i-preserved c =
     let l = c.loop-i in
     let a = c.args in (
       omega arith,
-      c.put_entry.auto.0 ∙ l.invariant.1,
+      c.put_entry.auto.out ∙ l.invariant.1,
       over-more l.i a.entries.now a.out.now l.out _ (omega arith) (omega arith) l.invariant.2 c.put_entry.ensures,
     )
 
