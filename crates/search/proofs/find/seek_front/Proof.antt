@@ -83,8 +83,8 @@ lowest c =
     let t = tagged w in
     let k = marked t in
     let a = (start k).args in
-    marks-lowest a.b.now (members k) (known k) a.key k.marks_of-marks.result (start k).requires.1 (marks-are k) (omega (arith, t.if-marks-eq0.left))
-    w.word_of.result w.word_of.ensures (omega (arith, w.word_of.ok)) i.is_slot_of.ensures c.if-is_slot_of.true
+    marks-lowest a.b.now (members k) (known k) a.key k.marks_of-marks.result (start k).requires.1 (marks-are k) (omega (arith, t.if-marks-eq0.false))
+    w.word_of.result w.word_of.ensures (omega (arith, w.word_of.type_inv)) i.is_slot_of.ensures c.if-is_slot_of.true
 
 copies_marked-requires : tie.Need-copies_marked-requires
 copies_marked-requires c κs =

@@ -74,7 +74,7 @@ returns-then-is_slot_of c =
     let k = marked t in
     let a = (start k).args in
     let l = marks-lowest a.b.now (members k) (known k) a.key k.marks_of-marks.result (start k).requires.1 k.marks_of-marks.ensures
-    (omega (arith, t.if-marks-eq0.left)) w.word_of.result w.word_of.ensures (omega (arith, w.word_of.ok)) i.is_slot_of.ensures c.if-is_slot_of.true in
+    (omega (arith, t.if-marks-eq0.false)) w.word_of.result w.word_of.ensures (omega (arith, w.word_of.type_inv)) i.is_slot_of.ensures c.if-is_slot_of.true in
     l.0 ∙ ap (slot_else layout1.front_slots) (sym (found_some a.key (members k) (known k).order l.1))
 
 seek_in-requires : tie.Need-seek_in-requires
@@ -91,15 +91,15 @@ found c =
 
 returns-in_default : tie.Need-returns-in_default
 returns-in_default c =
-    let f = c.before.before in
+    let f = c.before in
     let k = marked (tagged (word f.before.before)) in
-    ap (slot_else layout1.front_slots) (sym (search-none (found_in (start k).args.key (members k)) (found f) c.enum_told-1.given.1))
+    ap (slot_else layout1.front_slots) (sym (search-none (found_in (start k).args.key (members k)) (found f) c.in_default.is))
 
 returns : tie.Need-returns
 returns c =
-    let f = c.before.before.before in
+    let f = c.before in
     let k = marked (tagged (word f.before.before)) in
-    ap (slot_else layout1.front_slots) (sym (search-some (found_in (start k).args.key (members k)) (found f) c.before.found-1.given.1))
+    ap (slot_else layout1.front_slots) (sym (search-some (found_in (start k).args.key (members k)) (found f) c.in-At.is))
 
 pub slot_front_spec : {M : Type 1} → statement M
 slot_front_spec =
