@@ -31,12 +31,12 @@ settled c =
     let xs = in_front layout1 f img in
     let keep : List ℕ → List ℕ = λ l. put_front layout1 f l img in
     elim c.if-key-over.branch [
-      then-key-over i ↦
-        let h : x < largest (added x xs) = rw p.over at i.if-key-over.true in
-        i.image-is ∙ rw (p.over, over-front x xs w.read.list.order h) at i.swap_front_at.ensures ∙ sym (ap keep (left-swapped fits1 w x h))
-    | else-key-over i ↦
-        let h : largest (added x xs) ≤ x = omega (arith, i.if-key-over.false, p.over) in
-        i.image-is ∙ sym (ap keep (left-same fits1 w x h) ∙ put_front-same w.read)
+      | then-key-over i ↦
+          let h : x < largest (added x xs) = rw p.over at i.if-key-over.true in
+          i.image-is ∙ rw (p.over, over-front x xs w.read.list.order h) at i.swap_front_at.ensures ∙ sym (ap keep (left-swapped fits1 w x h))
+      | else-key-over i ↦
+          let h : largest (added x xs) ≤ x = omega (arith, i.if-key-over.false, p.over) in
+          i.image-is ∙ sym (ap keep (left-same fits1 w x h) ∙ put_front-same w.read)
     ]
 
 pub swap_front_at-requires : goal.swap_front_at-requires
