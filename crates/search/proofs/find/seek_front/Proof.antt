@@ -1,14 +1,13 @@
 -- `search::find::seek_front` meets its contract: no slot has the tag, or the first that has is the key's and its copies are marked, or select finds the slot.
-use mathlib.Core.Path.{◌≡◌, refl, sym, ap, ◌∙◌}
-use Prim.Native.Nat.{ℕ, ◌+◌, ◌*◌, ◌-◌, ◌/◌, ◌%◌, ◌^◌, ◌<◌}
+use mathlib.Core.Path.{◌≡◌, sym, ap}
+use Prim.Native.Nat.{ℕ, ◌*◌, ◌-◌, ◌/◌, ◌%◌, ◌^◌, ◌<◌}
 use mathlib.Core.Bool.{false}
 use mathlib.Core.List.{List}
 use native.Mathlib.Nat.{div-add-mod'}
 use native.Mathlib.Omega.{arith}
 use lib.ListN.{length}
 use lib.Count.{count_trailing_zeros}
-use borrow.Author.Rules.{rules}
-use Rattle.multiset.specs.Multisets.{below, copies, found_in}
+use Rattle.multiset.specs.Multisets.{below, copies}
 use Rattle.multiset.proofs.RankLaws.{found_some}
 use Rattle.crumbmap.specs.Layouts.{layout1, tags}
 use Rattle.buckets.specs.Buckets.{front_list}

@@ -1,21 +1,19 @@
 -- `search::find::slot_front` meets its contract: no slot has the tag, or the first that has is the key's, or select finds the slot.
-use mathlib.Core.Path.{◌≡◌, refl, sym, ap, ◌∙◌}
-use Prim.Native.Nat.{ℕ, ◌+◌, ◌*◌, ◌-◌, ◌/◌, ◌%◌, ◌^◌, ◌<◌}
+use mathlib.Core.Path.{◌≡◌, sym, ap, ◌∙◌}
+use Prim.Native.Nat.{ℕ, ◌-◌, ◌<◌}
 use mathlib.Core.Bool.{false}
 use mathlib.Core.List.{List}
 use native.Mathlib.Nat.{div-add-mod'}
 use native.Mathlib.Omega.{arith}
-use lib.ListN.{length}
 use lib.Count.{count_trailing_zeros}
 use borrow.Author.Rules.{rules}
-use Rattle.multiset.specs.Multisets.{below, copies, found_in}
+use Rattle.multiset.specs.Multisets.{found_in}
 use Rattle.multiset.proofs.RankLaws.{found_some}
-use Rattle.crumbmap.specs.Layouts.{layout1, tags}
+use Rattle.crumbmap.specs.Layouts.{layout1}
 use Rattle.buckets.specs.Buckets.{front_list}
 use Rattle.buckets.proofs.ElementLaws.{below-bytes}
 use Rattle.buckets.proofs.BucketLaws.{fits1}
-use Rattle.minifilter.specs.Steps.Slots.{span_of, tag_at}
-use Rattle.minifilter.specs.Steps.Marks.{marks_of}
+use Rattle.minifilter.specs.Steps.Slots.{span_of}
 use Rattle.minifilter.proofs.HeldLaws.{Held, held}
 use Rattle.search.specs.Steps.Searches.{search_of, slot_else}
 use Rattle.search.proofs.FoundLaws.{search-some, search-none}
