@@ -20,6 +20,7 @@ pub fn borders(w: u64) -> u64
 
 // By the eight bits of v: how many zeros the seven lowest have, and 8 times a number with a bit for each of these zeros, the lowest first,
 // 1 where the bit above it is one. A `match` is a table in machine code that no call builds.
+#[tactic(auto, unfolding(crate::specs::Steps::Borders::zeros_in, crate::specs::Steps::Borders::ends_in))]
 fn piece(v: u8) -> u64
     ensures { result ≡ zeros_in 7 v + 8 * ends_in 7 v }
 {

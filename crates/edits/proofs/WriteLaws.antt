@@ -1,7 +1,7 @@
 -- The bytes of a front bucket's keys, key by key: the word as each gets its zero, behind those before it, and the tags as each gets its bytes.
 -- Main results: `word_next`, `front_bytes-written`, and of tags of two bytes (layout 1) `tags-next`, `tags-all`.
 use mathlib.Core.Path.{◌≡◌, refl, sym, ap, ◌∙◌}
-use Prim.Native.Nat.{ℕ, suc, ◌+◌, ◌*◌, ◌/◌, ◌%◌, ◌-◌, ◌^◌, ◌≤◌, ◌<◌}
+use Prim.Native.Nat.{ℕ, suc, ◌+◌, ◌*◌, ◌/◌, ◌%◌, ◌^◌, ◌≤◌, ◌<◌}
 use mathlib.Core.List.{List, [], ◌∷◌, ◌++◌, append-nil}
 use native.Mathlib.Numerals.{add-one}
 use native.Mathlib.Omega.{arith}

@@ -2,7 +2,7 @@
 -- the slots are in order whatever the members' crumbs. Main results: `rising-order`, `crumbs-zero`. The last section is of layout 1.
 use mathlib.Core.Path.{◌≡◌, refl, sym, ◌∙◌}
 use Prim.Native.Nat.{ℕ, zero, suc, ◌+◌, ◌*◌, ◌-◌, ◌/◌, ◌%◌, ◌^◌, ◌≤◌, ◌<◌, max}
-use mathlib.Core.Bool.{true, false, ◌&&◌}
+use mathlib.Core.Bool.{true}
 use mathlib.Core.Logic.{◌⊎◌, inl, inr, ⊎_elim}
 use mathlib.Core.List.{List, [], ◌∷◌}
 use native.Mathlib.Nat.{le_refl, zero-add, pow-succ', mul-le-mul_right, div-div-eq-div-mul, div-one, div-eq_of_lt}

@@ -1,5 +1,5 @@
 -- The lines that the small program prints, each with its newline.
-use Rattle.std.specs.Prelude.{ℕ, ◌+◌, List, [], ◌∷◌, ◌++◌}
+use Rattle.std.specs.Prelude.{ℕ, List, [], ◌∷◌, ◌++◌}
 use Rattle.std.proofs.Math.Option.{Option, none, some}
 use Rattle.answers.specs.declared.pairs.Said.{Said}
 use Rattle.text.specs.Texts.{hex}

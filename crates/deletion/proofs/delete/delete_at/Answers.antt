@@ -1,6 +1,6 @@
 -- `deletion::delete::delete_at` meets its contract. What the plan says of the machine's delete is what is written, where the total has room.
-use mathlib.Core.Path.{◌≡◌, refl, ◌∙◌}
-use borrow.Author.Tests.{not-true}
+use mathlib.Core.Path.{◌≡◌, refl, ◌∙◌, ap}
+use mathlib.Core.Bool.{not}
 use Rattle.crumbmap.specs.Layouts.{layout1}
 use Rattle.machine.specs.Machine.{delete_at}
 use Rattle.answers.proofs.ChangeLaws.{changes, change-refused}
@@ -8,7 +8,7 @@ use Rattle.tails.specs.Steps.Changing.{within}
 use Rattle.tails.proofs.ChangeLaws.{within-room}
 use Rattle.deletion.specs.Steps.Deletions.{LeavesFront, Refills, TakesOut}
 use Rattle.deletion.proofs.DeleteSteps.{plan-refused, plan-leaves, plan-refills, plan-takes-out, plan-roomless}
-use Rattle.deletion.proofs.delete.delete_at.Goals.{After-refill_from-arg-1, After-remove_front_at-arg-1, After-remove_front_at-arg-in-Leaves-1, After-take_out-arg-1, Else-not-room}
+use Rattle.deletion.proofs.delete.delete_at.Goals.{Else-not-room, In-Leaves, In-Refills, In-TakesOut}
 use Rattle.deletion.proofs.delete.delete_at.Goals as goal
 
 -- the machine's delete, within that room
@@ -18,30 +18,32 @@ roomy : (c : Else-not-room) →
     within a.room m ≡ m
 roomy c =
     let a = c.args in
-    within-room a.room (delete_at layout1 a.target.size a.target.front.0 a.target.key a.image.now) c.if-not-room.false
+    within-room a.room (delete_at layout1 a.target.size a.target.front.0 a.target.key a.image.now) (ap not c.if-not-room.false)
 
-leaves : (c : After-remove_front_at-arg-1) → let a = c.args in LeavesFront layout1 a.target c.in-Leaves.slot a.image.now
+leaves : (c : In-Leaves) → let a = c.args in LeavesFront layout1 a.target c.in-Leaves.slot a.image.now
 leaves c = let a = c.args in plan-leaves layout1 a.target a.image.now c.plan-planned.ensures c.in-Leaves.is
 
-refills : (c : After-refill_from-arg-1) → let a = c.args in Refills layout1 a.target c.in-Refills.refill a.image.now
+refills : (c : In-Refills) → let a = c.args in Refills layout1 a.target c.in-Refills.refill a.image.now
 refills c = let a = c.args in plan-refills layout1 a.target a.image.now c.plan-planned.ensures c.in-Refills.is
 
-takes_out : (c : After-take_out-arg-1) → let a = c.args in TakesOut layout1 a.target c.in-TakesOut.member a.image.now
+takes_out : (c : In-TakesOut) → let a = c.args in TakesOut layout1 a.target c.in-TakesOut.member a.image.now
 takes_out c = let a = c.args in plan-takes-out layout1 a.target a.image.now c.plan-planned.ensures c.in-TakesOut.is
 
 pub remove_front_at-requires : goal.remove_front_at-requires
-remove_front_at-requires c = ((leaves c).read, (leaves c).here)
+remove_front_at-requires c =
+    let l = leaves (goal.at.remove_front_at-requires c).In-Leaves in
+    (l.read, l.here)
 
 pub refill_from-requires : goal.refill_from-requires
-refill_from-requires c = refills c
+refill_from-requires c = refills (goal.at.refill_from-requires c).In-Refills
 
 pub take_out-requires : goal.take_out-requires
-take_out-requires c = (takes_out c).stands
+take_out-requires c = (takes_out (goal.at.take_out-requires c).In-TakesOut).stands
 
 pub returns-then-not-room : goal.returns-then-not-room
 returns-then-not-room c =
     let a = c.args in
-    rw (not-true a.room c.if-not-room.true, c.without_room.ensures)
+    rw (c.if-not-room.true, c.without_room.ensures)
     (plan-roomless layout1 a.target a.image.now c.plan-planned.result c.plan-planned.ensures)
 
 pub returns-in-Refused : goal.returns-in-Refused
@@ -52,14 +54,14 @@ returns-in-Refused c =
 
 pub returns-in-Leaves : goal.returns-in-Leaves
 returns-in-Leaves c =
-    changes (roomy (goal.at.returns-in-Leaves c).Else-not-room ∙ (leaves (goal.at.returns-in-Leaves c).After-remove_front_at-arg-in-Leaves-1).delete) (record { answer = refl; bytes = c.remove_front_at.ensures })
+    changes (roomy (goal.at.returns-in-Leaves c).Else-not-room ∙ (leaves (goal.at.returns-in-Leaves c).In-Leaves).delete) (record { answer = refl; bytes = c.remove_front_at.ensures })
 
 pub returns-in-Refills : goal.returns-in-Refills
 returns-in-Refills c =
     let e = c.refill_from.ensures in
-    changes (roomy (goal.at.returns-in-Refills c).Else-not-room ∙ (refills (goal.at.returns-in-Refills c).After-refill_from-arg-1).delete) (record { answer = rw e.0; bytes = e.1 })
+    changes (roomy (goal.at.returns-in-Refills c).Else-not-room ∙ (refills (goal.at.returns-in-Refills c).In-Refills).delete) (record { answer = rw e.0; bytes = e.1 })
 
 pub returns-in-TakesOut : goal.returns-in-TakesOut
 returns-in-TakesOut c =
     let e = c.take_out.ensures in
-    changes (roomy (goal.at.returns-in-TakesOut c).Else-not-room ∙ (takes_out (goal.at.returns-in-TakesOut c).After-take_out-arg-1).delete) (record { answer = rw e.0; bytes = e.1 })
+    changes (roomy (goal.at.returns-in-TakesOut c).Else-not-room ∙ (takes_out (goal.at.returns-in-TakesOut c).In-TakesOut).delete) (record { answer = rw e.0; bytes = e.1 })

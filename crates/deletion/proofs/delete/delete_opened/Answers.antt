@@ -53,12 +53,12 @@ overflow_sub-opened c =
 pub returns-in-Refused : goal.returns-in-Refused
 returns-in-Refused c =
     let t = c.target_of-target in
-    opened-refused c.requires (body (goal.at.returns-in-Refused c).Start t.result) (adjusts (goal.at.returns-in-Refused c).Start) (delete-opened c.requires c.args.hash t.ensures) c.if-opened-eq-TOP.left
+    opened-refused c.requires (body (goal.at.returns-in-Refused c).Start t.result) (adjusts (goal.at.returns-in-Refused c).Start) (delete-opened c.requires c.args.hash t.ensures) c.if-opened-eq-TOP.false
     (ltb 0 c.args.opened.total) (tail (goal.at.returns-in-Refused c).Start) (roomed (goal.at.returns-in-Refused c).Start) c.delete_at.ensures c.in-Refused.is
 
 pub returns-in-Accepted : goal.returns-in-Accepted
 returns-in-Accepted c =
     let t = c.target_of-target in
-    opened-accepted c.requires (body (goal.at.returns-in-Accepted c).Start t.result) (adjusts (goal.at.returns-in-Accepted c).Start) (delete-opened c.requires c.args.hash t.ensures) c.if-opened-eq-TOP.left
+    opened-accepted c.requires (body (goal.at.returns-in-Accepted c).Start t.result) (adjusts (goal.at.returns-in-Accepted c).Start) (delete-opened c.requires c.args.hash t.ensures) c.if-opened-eq-TOP.false
     (ltb 0 c.args.opened.total) (tail (goal.at.returns-in-Accepted c).Start) (roomed (goal.at.returns-in-Accepted c).Start) c.delete_at.ensures
     (omega (arith, c.delete_at.auto, body-long c.requires)) c.write_tail.ensures c.in-Accepted.is

@@ -22,13 +22,13 @@ abbrev start : tie.After-sound_front_at → tie.Start
 start c = c.before.before.before
 
 abbrev read : tie.In-Members → tie.After-sound_front_at
-read c = c.before.before.before
+read c = c.before
 
 abbrev sound : tie.After-find_front → tie.In-Members
 sound c = c.before.before
 
 abbrev sought : tie.In-At → tie.After-find_front
-sought c = c.before.before.before
+sought c = c.before
 
 -- the members of the front bucket
 abbrev members : tie.In-Members → List ℕ
@@ -36,10 +36,10 @@ members c = in_front layout1 (start (read c)).args.target.front.0 (start (read c
 
 -- the front bucket was read, with n members
 front : (c : tie.In-Members) →
-    FrontRead layout1 (start (read c)).args.target.front.0 (start (read c)).args.image.now × (length (members c) ≡ c.before.n-1.given.0.0)
+    FrontRead layout1 (start (read c)).args.target.front.0 (start (read c)).args.image.now × (length (members c) ≡ c.in-Members.n)
 front c =
     let a = (start (read c)).args in
-    let t = front-told layout1 a.target.front.0 0 a.image.now (read c).sound_front_at.ensures c.before.n-1.given.1 in
+    let t = front-told layout1 a.target.front.0 0 a.image.now (read c).sound_front_at.ensures c.in-Members.is in
     (t.0, t.1)
 
 -- what was found there
@@ -48,12 +48,12 @@ near c = rw c.before.bucket.ensures.0 at c.find_front.ensures
 
 -- a copy, at the slot behind the members below it
 there : (c : tie.In-At) → let k = sound (sought c) in let x = (start (read k)).args.target.key in
-    (0 < copies x (members k)) × At x c.before.slot-1.given.0.0 (members k)
+    (0 < copies x (members k)) × At x c.in-At.slot (members k)
 there c =
     let s = sought c in
     let k = sound s in
     let order = (front k).0.list.order in
-    let f = search-at (start (read k)).args.target.key (members k) order (near s) c.before.slot-1.given.1 in
+    let f = search-at (start (read k)).args.target.key (members k) order (near s) c.in-At.is in
     (f.2, rank-at order f.0 f.2)
 
 sound_front_at-requires : tie.Need-sound_front_at-requires
@@ -62,9 +62,9 @@ sound_front_at-requires c κs = front-in c.before.before.requires.within
 returns-in_default : tie.Need-returns-in_default
 unfolding delete_at
 returns-in_default c =
-    let r = c.before.before in
+    let r = c.before in
     let a = (start r).args in
-    rw (front-unsound layout1 a.target.front.0 0 a.image.now r.sound_front_at.ensures c.enum_told-1.given.1)
+    rw (front-unsound layout1 a.target.front.0 0 a.image.now r.sound_front_at.ensures c.in_default.is)
 
 bucket-requires : tie.Need-bucket-requires
 bucket-requires c κs = (front c).0.inside
@@ -74,14 +74,14 @@ find_front-requires c κs = rw c.bucket.ensures.0 ((front c.before).0.sound, (st
 
 plan_other-requires : tie.Need-plan_other-requires
 plan_other-requires c κs =
-    let f = c.before.before in
+    let f = c.before in
     let k = sound f in
     let r = front k in
     record {
       placed = (start (read k)).requires;
       read = r.0;
       many = r.1;
-      absent = search-absent (start (read k)).args.target.key (members k) r.0.list.order (near f) c.enum_told-in_default-find_front-1.given.1;
+      absent = search-absent (start (read k)).args.target.key (members k) r.0.list.order (near f) c.in_default-find_front.is;
     }
 
 returns-then-n-lt-FRONT_SLOTS : tie.Need-returns-then-n-lt-FRONT_SLOTS

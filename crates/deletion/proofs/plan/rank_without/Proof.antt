@@ -23,22 +23,22 @@ abbrev reading : tie.After-read_front_at → tie.After-largest_front
 reading c = c.before.before
 
 abbrev ranked : tie.In-Members → tie.After-read_front_at
-ranked c = c.before.before.before
+ranked c = c.before
 
 -- the members in front
 abbrev members : tie.Start → List ℕ
 members s = in_front layout1 s.args.front.0 s.args.image.now
 
 -- how many are below the key
-rank : (c : tie.In-Members) → let s = start (reading (ranked c)) in c.before.below-1.given.0.1.0 ≡ below s.args.key (members s)
+rank : (c : tie.In-Members) → let s = start (reading (ranked c)) in c.in-Members.below ≡ below s.args.key (members s)
 rank c =
     let a = (start (reading (ranked c))).args in
-    (front-told layout1 a.front.0 a.key a.image.now (ranked c).read_front_at.ensures c.before.below-1.given.1).2
+    (front-told layout1 a.front.0 a.key a.image.now (ranked c).read_front_at.ensures c.in-Members.is).2
 
 -- the copy that leaves is below the key
 past : (c : tie.Then-gone-key) →
     let s = start (reading (ranked c.before)) in
-    suc (below s.args.key (removed s.args.gone (members s))) ≡ c.before.before.below-1.given.0.1.0
+    suc (below s.args.key (removed s.args.gone (members s))) ≡ c.before.in-Members.below
 past c =
     let s = start (reading (ranked c.before)) in
     below-past s.args.key s.args.gone (members s) c.if-gone-key.true s.requires.1 ∙ sym (rank c.before)
@@ -62,11 +62,11 @@ returns-then-largest_front-key c =
 -- the bucket is sound
 returns-in_default : tie.Need-returns-in_default
 returns-in_default c =
-    let r = c.before.before in
+    let r = c.before in
     let s = start (reading r) in
     let f = s.args.front.0 in
     let img = s.args.image.now in
-    let u : front_at layout1 f img ≡ refused 3 f = front-unsound layout1 f s.args.key img r.read_front_at.ensures c.enum_told-1.given.1 in
+    let u : front_at layout1 f img ≡ refused 3 f = front-unsound layout1 f s.args.key img r.read_front_at.ensures c.in_default.is in
     let a : front_at layout1 f img ≡ accepted (in_front layout1 f img) = s.requires.0.read.accepts in
     let z : ◌≡◌ {A = ℕ} 0 1 = cc in
     absurd (omega arith)

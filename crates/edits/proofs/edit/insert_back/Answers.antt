@@ -33,7 +33,7 @@ insert_slot-requires c =
 pub insert_crumb-requires : goal.insert_crumb-requires
 insert_crumb-requires c =
     let put = c.insert_slot in
-    (crumbs-long put.new.0 (put.auto.0 ∙ c.requires.sound.long), omega (arith, slot_lt (goal.at.insert_crumb-requires c).After-slice_known-1), omega arith)
+    (crumbs-long put.new.b (put.auto.b ∙ c.requires.sound.long), omega (arith, slot_lt (goal.at.insert_crumb-requires c).After-slice_known-1), omega arith)
 
 pub returns : goal.returns
 returns c =

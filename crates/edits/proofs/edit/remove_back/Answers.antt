@@ -28,7 +28,7 @@ remove_slot-requires c =
 pub remove_crumb-requires : goal.remove_crumb-requires
 remove_crumb-requires c =
     let put = c.remove_slot in
-    (crumbs-long put.new.0 (put.auto.0 ∙ c.requires.0.long), omega (arith, slot_lt (goal.at.remove_crumb-requires c).After-slice_known-1))
+    (crumbs-long put.new.b (put.auto.b ∙ c.requires.0.long), omega (arith, slot_lt (goal.at.remove_crumb-requires c).After-slice_known-1))
 
 pub returns : goal.returns
 returns c =

@@ -1,6 +1,6 @@
 -- `image::back::sound_back_at` meets its contract: what the quick test or the reader says of the bucket's bytes is what the image says of that bucket
 -- (`back-says`).
-use mathlib.Core.Path.{sym, ◌∙◌, ap}
+use mathlib.Core.Path.{◌≡◌, sym, ◌∙◌, ap}
 use mathlib.Core.Logic.{⊎_elim}
 use mathlib.Core.List.{List}
 use Prim.Native.Nat.{ℕ}

@@ -2,7 +2,7 @@
 -- The loop's invariant: the first `i` buckets are empty, the rest is as it was. The measure is how many buckets are left.
 use mathlib.Core.Path.{◌≡◌, refl, ◌∙◌, ap}
 use Prim.Native.Nat.{ℕ, ◌*◌, ◌≤◌}
-use mathlib.Core.List.{List, append-nil}
+use mathlib.Core.List.{List, [], append-nil}
 use native.Mathlib.Omega.{arith}
 use lib.ListN.{length, drop_of_length-le}
 use Rattle.crumbmap.specs.Layouts.{layout1}

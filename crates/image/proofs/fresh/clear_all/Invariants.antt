@@ -1,7 +1,7 @@
 -- What holds at each turn of the loop, and what gets less.
 use mathlib.Core.Path.{◌≡◌}
 use Prim.Native.Nat.{◌*◌, ◌-◌, ◌≤◌}
-use mathlib.Core.List.{◌++◌}
+use mathlib.Core.List.{[], ◌++◌}
 use lib.ListN.{length, drop}
 use Rattle.crumbmap.specs.Layouts.{layout1}
 use Rattle.buckets.specs.Buckets.{front_bytes}

@@ -2,7 +2,6 @@
 use mathlib.Core.Path.{◌≡◌, refl}
 use mathlib.Core.Bool.{false}
 use Prim.Native.Nat.{suc, ◌-◌, ◌^◌, ◌≤◌}
-use mathlib.Core.Logic.{⊎_elim}
 use native.Mathlib.Nat.{pow-suc}
 use native.Mathlib.Numerals.{add-one}
 use native.Mathlib.Omega.{arith}
@@ -12,7 +11,7 @@ use Rattle.minifilter.specs.Steps.Slots.{tag_at}
 use Rattle.minifilter.specs.Steps.Marks.{marks_of, fall_at}
 use Rattle.minifilter.proofs.MarkLaws.{marks-hit, marks-miss}
 use Rattle.minifilter.proofs.QuickLaws.{falls-here, falls-not}
-use Rattle.minifilter.proofs.quick.falls.Goals.{In-loop-slot}
+use Rattle.minifilter.proofs.quick.falls.Goals.{In-loop-slot, then-tag_of, else-tag_of}
 use Rattle.minifilter.proofs.quick.falls.Goals as goal
 
 pub loop-slot-init : goal.loop-slot-init
@@ -43,10 +42,10 @@ loop-slot-preserved c =
     let here = c.tag_of-in-loop-slot.ensures.0 in (
       omega (arith, c.loop-slot-test.true),
       rw (add-one p.slot, pow-suc 2 (suc p.slot), p.invariant.1),
-      ⊎_elim
-          (λ h. rw (h.1, p.invariant.1) (marks-hit (fall_at layout1 b) 1 p.slot p.invariant.2 (falls-here layout1 b p.slot (rw (next, here) at h.0.taken))))
-          (λ h. rw h.1 (marks-miss (fall_at layout1 b) 1 p.slot p.invariant.2 (falls-not layout1 b p.slot (rw (next, here) at h.0.left))))
-          c.if-tag_of.branch,
+      elim c.if-tag_of.branch [
+        | then-tag_of h ↦ rw (h.marks-is, p.invariant.1) (marks-hit (fall_at layout1 b) 1 p.slot p.invariant.2 (falls-here layout1 b p.slot (rw (next, here) at h.if-tag_of.true)))
+        | else-tag_of h ↦ rw h.marks-is (marks-miss (fall_at layout1 b) 1 p.slot p.invariant.2 (falls-not layout1 b p.slot (rw (next, here) at h.if-tag_of.false)))
+      ],
     )
 
 pub returns : goal.returns

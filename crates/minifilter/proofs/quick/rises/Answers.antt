@@ -2,7 +2,6 @@
 use mathlib.Core.Path.{◌≡◌, refl}
 use mathlib.Core.Bool.{true}
 use Prim.Native.Nat.{suc, ◌-◌, ◌^◌, ◌≤◌}
-use mathlib.Core.Logic.{⊎_elim}
 use native.Mathlib.Nat.{pow-suc}
 use native.Mathlib.Numerals.{add-one}
 use native.Mathlib.Omega.{arith}
@@ -12,7 +11,7 @@ use Rattle.minifilter.specs.Steps.Slots.{tag_at}
 use Rattle.minifilter.specs.Steps.Marks.{marks_of, rise_at}
 use Rattle.minifilter.proofs.MarkLaws.{marks-hit, marks-miss}
 use Rattle.minifilter.proofs.RiseLaws.{rises-here, rises-not}
-use Rattle.minifilter.proofs.quick.rises.Goals.{In-loop-slot}
+use Rattle.minifilter.proofs.quick.rises.Goals.{In-loop-slot, then-tag_of, else-tag_of}
 use Rattle.minifilter.proofs.quick.rises.Goals as goal
 
 pub loop-slot-init : goal.loop-slot-init
@@ -43,10 +42,10 @@ loop-slot-preserved c =
     let next : c.tag_of-in-loop-slot.result ≡ tag_at layout1 true b (suc p.slot) = rw (add-one p.slot) at c.tag_of-in-loop-slot.ensures.0 in (
       omega (arith, c.loop-slot-test.true),
       rw (add-one p.slot, pow-suc 2 (suc p.slot), p.invariant.1),
-      ⊎_elim
-          (λ h. rw (h.1, p.invariant.1) (marks-hit (rise_at layout1 b) 1 p.slot p.invariant.2 (rises-here layout1 b p.slot (rw (here, next) at h.0.taken))))
-          (λ h. rw h.1 (marks-miss (rise_at layout1 b) 1 p.slot p.invariant.2 (rises-not layout1 b p.slot (rw (here, next) at h.0.left))))
-          c.if-tag_of.branch,
+      elim c.if-tag_of.branch [
+        | then-tag_of h ↦ rw (h.marks-is, p.invariant.1) (marks-hit (rise_at layout1 b) 1 p.slot p.invariant.2 (rises-here layout1 b p.slot (rw (here, next) at h.if-tag_of.true)))
+        | else-tag_of h ↦ rw h.marks-is (marks-miss (rise_at layout1 b) 1 p.slot p.invariant.2 (rises-not layout1 b p.slot (rw (here, next) at h.if-tag_of.false)))
+      ],
     )
 
 pub returns : goal.returns

@@ -2,7 +2,6 @@
 -- word's zeros from `slot` on, the answer for all slots is the answer for those from `slot` on, behind `last`, and the slots below `sought` are
 -- `below` and those from `slot` on. The measure is the slots that are left.
 use mathlib.Core.Path.{◌≡◌, refl, sym, ◌∙◌, ap}
-use mathlib.Core.Logic.{⊎_elim}
 use Prim.Native.Nat.{ℕ, suc, ◌+◌, ◌-◌, ◌%◌, ◌≤◌, ◌<◌, zero-le}
 use mathlib.Core.List.{List}
 use native.Mathlib.Nat.{zero-add}
@@ -21,6 +20,7 @@ use Rattle.buckets.proofs.BucketLaws.{fits1}
 use Rattle.buckets.proofs.GapLaws.{gaps}
 use Rattle.minifilter.proofs.PassLaws.{ZeroAt, small1, zero1, gaps1, slots1-le, slots1-even, length-slot_members, slot_members-at, from_slot, pass-start, pass-stop, pass_on, pass-end, below-rest-smaller, below-rest-other, below-rest-none}
 use Rattle.minifilter.proofs.read.ascends.Statement.{statement}
+use Rattle.minifilter.proofs.read.ascends.Lts.{then-even-sought, else-even-sought, then-odd-sought, else-odd-sought}
 use Rattle.minifilter.proofs.read.ascends.Tie as tie
 
 abbrev invariant-loop-slot : tie.invariant-loop-slot
@@ -202,9 +202,10 @@ even-counted c =
     let m = even_is c.before.before.before.before in
     let smaller = below-rest-smaller s.args.sought i.slot (held s) h in
     let other = below-rest-other s.args.sought i.slot (held s) h in
-    ⊎_elim (λ w. (omega arith, omega (arith, smaller (omega (arith, m)))))
-    (λ w. (omega arith, omega (arith, other (omega (arith, m)))))
-    c.if-even-sought.branch
+    elim c.if-even-sought.branch [
+      | then-even-sought w ↦ (omega (arith, w.below-is), omega (arith, w.below-is, smaller (omega (arith, m, w.if-even-sought.true))))
+      | else-even-sought w ↦ (omega (arith, w.below-is), omega (arith, w.below-is, other (omega (arith, m, w.if-even-sought.false))))
+    ]
 
 overflow_add-below-then-odd-sought : tie.Need-overflow_add-below-then-odd-sought invariant-loop-slot decreases-loop-slot
 overflow_add-below-then-odd-sought c =
@@ -225,9 +226,10 @@ odd-counted c =
     let m = odd_is c.before.before.before in
     let smaller = below-rest-smaller s.args.sought (suc i.slot) (held s) h in
     let other = below-rest-other s.args.sought (suc i.slot) (held s) h in
-    ⊎_elim (λ w. (omega arith, omega (arith, smaller (omega (arith, m)))))
-    (λ w. (omega arith, omega (arith, other (omega (arith, m)))))
-    c.if-odd-sought.branch
+    elim c.if-odd-sought.branch [
+      | then-odd-sought w ↦ (omega (arith, w.below-is), omega (arith, w.below-is, smaller (omega (arith, m, w.if-odd-sought.true))))
+      | else-odd-sought w ↦ (omega (arith, w.below-is), omega (arith, w.below-is, other (omega (arith, m, w.if-odd-sought.false))))
+    ]
 
 overflow_add-slot-in-loop-slot : tie.Need-overflow_add-slot-in-loop-slot invariant-loop-slot decreases-loop-slot
 overflow_add-slot-in-loop-slot c = omega (arith, few (start (counted-turn c.before).before))

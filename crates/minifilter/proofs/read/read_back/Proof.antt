@@ -27,44 +27,44 @@ by_slots c =
     (reading-back layout1 fits1 s.args.member s.args.size s.args.bucket.0 s.args.b.now s.requires.long)
 
 returns-in_default : tie.Need-returns-in_default
-returns-in_default c = sym (by_slots c.before.before ∙ rw c.enum_told-1.given.1)
+returns-in_default c = sym (by_slots c.before ∙ rw c.in_default.is)
 
 -- where it gave a member count
-by-rest : (c : tie.In-Members-2) → let a = c.before.before.before.before.args in
+by-rest : (c : tie.In-Members) → let a = c.before.before.before.args in
     reading_of a.member (back_members layout1 a.size a.bucket.0 a.b.now)
-    ≡ count_if (eqb (get_or a.b.now 63 0) 0 && valid a.size a.bucket.0 (take c.members-1.given.0.0 (slot_crumbs layout1 true a.b.now)))
-    c.members-1.given.0.0 c.members-1.given.0.1.0
+    ≡ count_if (eqb (get_or a.b.now 63 0) 0 && valid a.size a.bucket.0 (take c.in-Members.members (slot_crumbs layout1 true a.b.now)))
+    c.in-Members.members c.in-Members.below
 by-rest c =
-    let b = c.before.before.before.before.args.b.now in
-    by_slots c.before.before
-    ∙ rw (c.members-1.given.1, unused1 b c.before.before.before.before.requires.long (c.before.before.before.shared_slice_known-1.given 63).fits)
+    let b = c.before.before.before.args.b.now in
+    by_slots c.before
+    ∙ rw (c.in-Members.is, unused1 b c.before.before.before.requires.long (c.before.before.shared_slice_known-1.given 63).fits)
 
 returns-then-b-ne0 : tie.Need-returns-then-b-ne0
 returns-then-b-ne0 c =
-    let m = c.before.before.before in
-    sym (by-rest m ∙ rw (ne_eqb (get_or m.before.before.before.before.args.b.now 63 0) 0 c.if-b-ne0.true))
+    let m = c.before.before in
+    sym (by-rest m ∙ rw (ne_eqb (get_or m.before.before.before.args.b.now 63 0) 0 c.if-b-ne0.true))
 
 -- at most as many as there are slots
-room : (c : tie.In-Members-2) → c.members-1.given.0.0 ≤ layout1.back_slots
+room : (c : tie.In-Members) → c.in-Members.members ≤ layout1.back_slots
 room c =
-    let r = c.before.before in
-    reading-room layout1 r.before.before.args.member c.members-1.given.0.0 c.members-1.given.0.1.0
+    let r = c.before in
+    reading-room layout1 r.before.before.args.member c.in-Members.members c.in-Members.below
     r.before.before.args.b.now
-    (sym r.read_slots.ensures ∙ c.members-1.given.1)
+    (sym r.read_slots.ensures ∙ c.in-Members.is)
 
 crumbs_marked-requires : tie.Need-crumbs_marked-requires
 crumbs_marked-requires c κs =
-    let m = c.before.before.before.before in
-    (m.before.before.before.before.requires.long, room m)
+    let m = c.before.before.before in
+    (m.before.before.before.requires.long, room m)
 
 -- where byte 63 is 0
-by-crumbs : (c : tie.After-crumbs_marked) → let m = c.before.before.before.before.before in let a = m.before.before.before.before.args in
+by-crumbs : (c : tie.After-crumbs_marked) → let m = c.before.before.before.before in let a = m.before.before.before.args in
     reading_of a.member (back_members layout1 a.size a.bucket.0 a.b.now)
-    ≡ count_if c.crumbs_marked.result m.members-1.given.0.0 m.members-1.given.0.1.0
+    ≡ count_if c.crumbs_marked.result m.in-Members.members m.in-Members.below
 by-crumbs c =
-    let m = c.before.before.before.before.before in
-    let a = m.before.before.before.before.args in
-    let n = m.members-1.given.0.0 in
+    let m = c.before.before.before.before in
+    let a = m.before.before.before.args in
+    let n = m.in-Members.members in
     let cs = slot_crumbs layout1 true a.b.now in
     let v = c.before.valid_crumbs-marks in
     by-rest m

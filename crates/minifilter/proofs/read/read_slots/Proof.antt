@@ -61,10 +61,10 @@ decided c =
     (omega (arith, s.requires.2)))
 
 returns-in_default : tie.Need-returns-in_default
-returns-in_default c = sym (decided c.before.before ∙ rw c.enum_told-1.given.1)
+returns-in_default c = sym (decided c.before ∙ rw c.in_default.is)
 
 returns : tie.Need-returns
-returns c = sym (decided c.before.before.before ∙ rw c.before.below-1.given.1)
+returns c = sym (decided c.before ∙ rw c.in-Below.is)
 
 pub read_slots_spec : {M : Type 1} → statement M
 read_slots_spec =

@@ -1,6 +1,6 @@
 -- `search::find::copies_front` meets its contract: a scan of what is left of the mini-bucket finds the end of the copies (`run-copies`), or there is
 -- one (`lone-copy`).
-use mathlib.Core.Path.{◌≡◌, sym, ◌∙◌}
+use mathlib.Core.Path.{◌∙◌}
 use mathlib.Core.Bool.{false}
 use Prim.Native.Nat.{◌<◌}
 use native.Mathlib.Omega.{arith}

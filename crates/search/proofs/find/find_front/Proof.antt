@@ -1,10 +1,9 @@
 -- `search::find::find_front` meets its contract: no slot was found, or the copies from it on are counted.
 use mathlib.Core.Path.{◌≡◌, sym, ap}
 use mathlib.Core.Bool.{false}
-use Prim.Native.Nat.{◌≤◌, ◌<◌}
+use Prim.Native.Nat.{◌<◌}
 use native.Mathlib.Nat.{div-add-mod'}
 use native.Mathlib.Omega.{arith}
-use lib.ListN.{length}
 use borrow.Author.Rules.{rules}
 use Rattle.multiset.specs.Multisets.{below, copies}
 use Rattle.multiset.proofs.RankLaws.{found_some}

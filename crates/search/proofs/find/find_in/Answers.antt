@@ -58,7 +58,7 @@ overflow_add-low c = omega (arith, c.requires.low, span1-le c.args.crumbs)
 pub scan-requires : goal.scan-requires
 scan-requires c =
     let p = c.past_of-past.ensures in
-    (sound-long layout1 c.args.crumbs c.args.b.now c.requires.sound, omega (arith, p.1, c.if-past-slot.left), p.2)
+    (sound-long layout1 c.args.crumbs c.args.b.now c.requires.sound, omega (arith, p.1, c.if-past-slot.false), p.2)
 
 pub returns : goal.returns
 returns c =

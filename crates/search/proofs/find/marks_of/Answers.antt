@@ -2,7 +2,6 @@
 use mathlib.Core.Path.{◌≡◌, refl, ◌∙◌}
 use Prim.Native.Nat.{suc, ◌^◌, ◌≤◌}
 use mathlib.Core.Bool.{false}
-use mathlib.Core.Logic.{⊎_elim}
 use native.Mathlib.Nat.{pow-suc}
 use native.Mathlib.Numerals.{add-one}
 use native.Mathlib.Omega.{arith}
@@ -11,7 +10,7 @@ use Rattle.crumbmap.specs.Layouts.{layout1}
 use Rattle.minifilter.specs.Steps.Slots.{tag_at}
 use Rattle.minifilter.specs.Steps.Marks.{marks_of}
 use Rattle.minifilter.proofs.MarkLaws.{marks-hit, marks-miss}
-use Rattle.search.proofs.find.marks_of.Goals.{In-loop-slot}
+use Rattle.search.proofs.find.marks_of.Goals.{In-loop-slot, then-tag_of-tag, else-tag_of-tag}
 use Rattle.search.proofs.find.marks_of.Goals as goal
 
 pub loop-slot-init : goal.loop-slot-init
@@ -36,10 +35,10 @@ loop-slot-preserved c =
     let tag = c.tag_of.ensures.0 in (
       omega (arith, c.loop-slot-test.true),
       rw (add-one p.slot, pow-suc 2 (suc p.slot), p.invariant.1),
-      ⊎_elim
-          (λ h. rw (h.1, p.invariant.1) (marks-hit f a.tag p.slot p.invariant.2 (rw tag at h.0.taken)))
-          (λ h. rw h.1 (marks-miss f a.tag p.slot p.invariant.2 (λ e. h.0.left (tag ∙ e))))
-          c.if-tag_of-tag.branch,
+      elim c.if-tag_of-tag.branch [
+        | then-tag_of-tag h ↦ rw (h.marks-is, p.invariant.1) (marks-hit f a.tag p.slot p.invariant.2 (rw tag at h.if-tag_of-tag.true))
+        | else-tag_of-tag h ↦ rw h.marks-is (marks-miss f a.tag p.slot p.invariant.2 (λ e. h.if-tag_of-tag.false (tag ∙ e)))
+      ],
     )
 
 pub returns : goal.returns

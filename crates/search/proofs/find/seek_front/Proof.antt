@@ -1,14 +1,13 @@
 -- `search::find::seek_front` meets its contract: no slot has the tag, or the first that has is the key's and its copies are marked, or select finds the slot.
-use mathlib.Core.Path.{◌≡◌, refl, sym, ap, ◌∙◌}
-use Prim.Native.Nat.{ℕ, ◌+◌, ◌*◌, ◌-◌, ◌/◌, ◌%◌, ◌^◌, ◌<◌}
+use mathlib.Core.Path.{◌≡◌, sym, ap}
+use Prim.Native.Nat.{ℕ, ◌*◌, ◌-◌, ◌/◌, ◌%◌, ◌^◌, ◌<◌}
 use mathlib.Core.Bool.{false}
 use mathlib.Core.List.{List}
 use native.Mathlib.Nat.{div-add-mod'}
 use native.Mathlib.Omega.{arith}
 use lib.ListN.{length}
 use lib.Count.{count_trailing_zeros}
-use borrow.Author.Rules.{rules}
-use Rattle.multiset.specs.Multisets.{below, copies, found_in}
+use Rattle.multiset.specs.Multisets.{below, copies}
 use Rattle.multiset.proofs.RankLaws.{found_some}
 use Rattle.crumbmap.specs.Layouts.{layout1, tags}
 use Rattle.buckets.specs.Buckets.{front_list}
@@ -83,8 +82,8 @@ lowest c =
     let t = tagged w in
     let k = marked t in
     let a = (start k).args in
-    marks-lowest a.b.now (members k) (known k) a.key k.marks_of-marks.result (start k).requires.1 (marks-are k) (omega (arith, t.if-marks-eq0.left))
-    w.word_of.result w.word_of.ensures (omega (arith, w.word_of.ok)) i.is_slot_of.ensures c.if-is_slot_of.true
+    marks-lowest a.b.now (members k) (known k) a.key k.marks_of-marks.result (start k).requires.1 (marks-are k) (omega (arith, t.if-marks-eq0.false))
+    w.word_of.result w.word_of.ensures (omega (arith, w.word_of.type_inv)) i.is_slot_of.ensures c.if-is_slot_of.true
 
 copies_marked-requires : tie.Need-copies_marked-requires
 copies_marked-requires c κs =

@@ -1,21 +1,19 @@
 -- `search::find::slot_front` meets its contract: no slot has the tag, or the first that has is the key's, or select finds the slot.
-use mathlib.Core.Path.{◌≡◌, refl, sym, ap, ◌∙◌}
-use Prim.Native.Nat.{ℕ, ◌+◌, ◌*◌, ◌-◌, ◌/◌, ◌%◌, ◌^◌, ◌<◌}
+use mathlib.Core.Path.{◌≡◌, sym, ap, ◌∙◌}
+use Prim.Native.Nat.{ℕ, ◌-◌, ◌<◌}
 use mathlib.Core.Bool.{false}
 use mathlib.Core.List.{List}
 use native.Mathlib.Nat.{div-add-mod'}
 use native.Mathlib.Omega.{arith}
-use lib.ListN.{length}
 use lib.Count.{count_trailing_zeros}
 use borrow.Author.Rules.{rules}
-use Rattle.multiset.specs.Multisets.{below, copies, found_in}
+use Rattle.multiset.specs.Multisets.{found_in}
 use Rattle.multiset.proofs.RankLaws.{found_some}
-use Rattle.crumbmap.specs.Layouts.{layout1, tags}
+use Rattle.crumbmap.specs.Layouts.{layout1}
 use Rattle.buckets.specs.Buckets.{front_list}
 use Rattle.buckets.proofs.ElementLaws.{below-bytes}
 use Rattle.buckets.proofs.BucketLaws.{fits1}
-use Rattle.minifilter.specs.Steps.Slots.{span_of, tag_at}
-use Rattle.minifilter.specs.Steps.Marks.{marks_of}
+use Rattle.minifilter.specs.Steps.Slots.{span_of}
 use Rattle.minifilter.proofs.HeldLaws.{Held, held}
 use Rattle.search.specs.Steps.Searches.{search_of, slot_else}
 use Rattle.search.proofs.FoundLaws.{search-some, search-none}
@@ -74,7 +72,7 @@ returns-then-is_slot_of c =
     let k = marked t in
     let a = (start k).args in
     let l = marks-lowest a.b.now (members k) (known k) a.key k.marks_of-marks.result (start k).requires.1 k.marks_of-marks.ensures
-    (omega (arith, t.if-marks-eq0.left)) w.word_of.result w.word_of.ensures (omega (arith, w.word_of.ok)) i.is_slot_of.ensures c.if-is_slot_of.true in
+    (omega (arith, t.if-marks-eq0.false)) w.word_of.result w.word_of.ensures (omega (arith, w.word_of.type_inv)) i.is_slot_of.ensures c.if-is_slot_of.true in
     l.0 ∙ ap (slot_else layout1.front_slots) (sym (found_some a.key (members k) (known k).order l.1))
 
 seek_in-requires : tie.Need-seek_in-requires
@@ -91,15 +89,15 @@ found c =
 
 returns-in_default : tie.Need-returns-in_default
 returns-in_default c =
-    let f = c.before.before in
+    let f = c.before in
     let k = marked (tagged (word f.before.before)) in
-    ap (slot_else layout1.front_slots) (sym (search-none (found_in (start k).args.key (members k)) (found f) c.enum_told-1.given.1))
+    ap (slot_else layout1.front_slots) (sym (search-none (found_in (start k).args.key (members k)) (found f) c.in_default.is))
 
 returns : tie.Need-returns
 returns c =
-    let f = c.before.before.before in
+    let f = c.before in
     let k = marked (tagged (word f.before.before)) in
-    ap (slot_else layout1.front_slots) (sym (search-some (found_in (start k).args.key (members k)) (found f) c.before.found-1.given.1))
+    ap (slot_else layout1.front_slots) (sym (search-some (found_in (start k).args.key (members k)) (found f) c.in-At.is))
 
 pub slot_front_spec : {M : Type 1} → statement M
 slot_front_spec =

@@ -1,7 +1,6 @@
 -- `search::list::list_in` meets its contract. The loop's invariant: `zeros` are the word's zeros from `slot` on, and the keys asked for of the slots
 -- passed stand in front of what `out` held. The measure is the slots that are left.
 use mathlib.Core.Path.{◌≡◌, refl, ◌∙◌}
-use mathlib.Core.Logic.{⊎_elim}
 use Prim.Native.Nat.{ℕ, ◌+◌, ◌-◌, ◌^◌, ◌≤◌, ◌<◌}
 use mathlib.Core.List.{List}
 use native.Mathlib.Omega.{arith}
@@ -19,6 +18,7 @@ use Rattle.minifilter.proofs.PassLaws.{gaps1}
 use Rattle.minifilter.proofs.HeldLaws.{Held, sound-long, held, member_key, held-many1, held-count1}
 use Rattle.search.proofs.ListLaws.{Turn, turn1, key1, Listed, listed_start, listed-yes, listed-no}
 use Rattle.search.proofs.list.list_in.Statement.{statement}
+use Rattle.search.proofs.list.list_in.Lts.{then-wanted, else-wanted}
 use Rattle.search.proofs.list.list_in.Tie as tie
 
 abbrev invariant-loop-slot : tie.invariant-loop-slot
@@ -99,20 +99,23 @@ turned c =
     let a = s.args in
     let b = a.b.now in
     let test = c.before.wanted in
-    ⊎_elim
-    (λ w. rw (w.1, w.2) (
-      omega arith,
-      simp length-set l.invariant.2,
-      listed-yes layout1 a.crumbs a.crumb b (members s) (known at) l.slot l.n l.out a.out.now (used t) l.invariant.4
-          test.result test.ensures w.0.taken c.before.before.key_at-key.result (key-is c.before.before) (omega (arith, within t, s.requires.1)),
-    ))
-    (λ w. rw (w.1, w.2) (
-      omega arith,
-      l.invariant.2,
-      listed-no layout1 a.crumbs a.crumb b (members s) (known at) l.slot l.n l.out a.out.now (used t) l.invariant.4
-          test.result test.ensures w.0.left,
-    ))
-    c.if-wanted.branch
+    elim c.if-wanted.branch [
+      | then-wanted w ↦
+          rw (w.out-is, w.n-is) (
+            omega arith,
+            simp length-set l.invariant.2,
+            listed-yes layout1 a.crumbs a.crumb b (members s) (known at) l.slot l.n l.out a.out.now (used t) l.invariant.4
+                test.result test.ensures w.if-wanted.true c.before.before.key_at-key.result (key-is c.before.before)
+                (omega (arith, within t, s.requires.1)),
+          )
+      | else-wanted w ↦
+          rw (w.out-is, w.n-is) (
+            omega arith,
+            l.invariant.2,
+            listed-no layout1 a.crumbs a.crumb b (members s) (known at) l.slot l.n l.out a.out.now (used t) l.invariant.4
+                test.result test.ensures w.if-wanted.false,
+          )
+    ]
 
 -- the loop's count of members fits
 room : (l : tie.At-loop-slot invariant-loop-slot decreases-loop-slot) → l.before.occupancy-members.result ≤ layout1.front_slots

@@ -1,5 +1,5 @@
 -- `shifts::crumbs::insert_crumb` meets its contract: what falls off the first word comes into the bytes behind it.
-use Rattle.std.proofs.Common.{ℕ, ◌∷◌, sym, ap, ◌∙◌, arith}
+use Rattle.std.proofs.Common.{ℕ, [], ◌∷◌, sym, ap, ◌∙◌, arith}
 use Rattle.multiset.specs.Digits.{grouped, spread}
 use Rattle.shifts.specs.Steps.Shifts.{inserted, crumb_inserted}
 use Rattle.shifts.proofs.CrumbLaws.{crumbs-stored, crumbs-written, crumb-inserted}

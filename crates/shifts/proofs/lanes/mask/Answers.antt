@@ -4,4 +4,4 @@ use Rattle.shifts.proofs.LaneLaws.{mask-bits}
 use Rattle.shifts.proofs.lanes.mask.Goals as goal
 
 pub returns : goal.returns
-returns c = let call = c.wrapping_sub_u64 in mask-bits call.result c.args.half c.requires (omega arith) call.ensures
+returns c = let call = c.wrapping_sub_u64 in mask-bits call.result c.args.half c.requires (omega arith) call.ensures.value

@@ -8,7 +8,7 @@ use Rattle.shifts.proofs.lanes.open_lane.Goals as goal
 
 -- one above the mask, where that is no more than 64 bits
 unit : (c : After-wrapping_add_u64-unit) → c.wrapping_add_u64-unit.result ≡ (4 ^ (2 * c.args.lane) - 1 + 1) % 2 ^ 64
-unit c = rw c.mask-keep.ensures at c.wrapping_add_u64-unit.ensures
+unit c = rw c.mask-keep.ensures at c.wrapping_add_u64-unit.ensures.value
 
 pub overflow_mul-put : goal.overflow_mul-put
 overflow_mul-put c =
@@ -28,6 +28,6 @@ overflow_sub-x c = and_le_l c.args.x c.mask-keep.result
 pub returns : goal.returns
 returns c =
     let a = c.args in
-    let sum = rw (c.mask-keep.ensures, kept-bits a.x (2 * a.lane)) at c.wrapping_add_u64.ensures in
+    let sum = rw (c.mask-keep.ensures, kept-bits a.x (2 * a.lane)) at c.wrapping_add_u64.ensures.value in
     open-digits a.lane a.put c.wrapping_add_u64-unit.result c.requires.0 c.requires.1 (unit (goal.at.returns c).After-wrapping_add_u64-unit) a.x c.wrapping_add_u64.result
     c.ranges.x.fits sum

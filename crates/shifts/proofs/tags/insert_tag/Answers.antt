@@ -52,7 +52,7 @@ loop-o-preserved c =
       omega arith,
       omega arith,
       omega arith,
-      put.auto.0 ∙ l.invariant.6,
+      put.auto.s ∙ l.invariant.6,
       put.ensures ∙ up_turn 8 o xs l.s (digits 256 8 read.result) t long (omega arith) part (l.invariant.7 ∙ ap (λ (k : ℕ). mixed k xs t) back),
     )
 
@@ -79,10 +79,10 @@ returns c =
     let low = first-up at read.result xs (digits 256 8 word.result) (omega arith) (read.ensures ∙ old) word.ensures in
     let high = up-part 2 xs (omega arith) at 8 last (length xs) xs (done a.slot xs) (digits 256 8 top.result)
     (omega arith) (omega arith) (omega arith) refl refl top.ensures in
-    let moved = up-last 8 end last xs l.s c.put_at-2.new.s put.new.0 (digits 256 8 word.result) (digits 256 8 top.result)
+    let moved = up-last 8 end last xs l.s c.put_at-2.new.s put.new.s (digits 256 8 word.result) (digits 256 8 top.result)
     (done a.slot xs) (length-done a.slot xs (omega arith)) (omega arith) (omega arith) (omega arith) (omega arith)
     reached low c.put_at-2.ensures high put.ensures in
-    tag-stored at a.tag xs put.new.0 (omega arith) (omega arith) moved
+    tag-stored at a.tag xs put.new.s (omega arith) (omega arith) moved
 
 pub overflow_mul-at : goal.overflow_mul-at
 overflow_mul-at c = omega arith

@@ -25,7 +25,7 @@ loop-o-preserved c =
       omega arith,
       omega arith,
       omega arith,
-      put.auto.0 ∙ l.invariant.3,
+      put.auto.s ∙ l.invariant.3,
       put.ensures ∙ down_turn 8 l.o xs l.s (digits 256 8 read.result) t long (omega arith) part l.invariant.4,
     )
 

@@ -48,7 +48,7 @@ clear_all-requires c = omega (arith, (sized (goal.at.clear_all-requires c).In-Bu
 
 long : (c : After-clear_all) → length c.clear_all.new.image ≡ length c.args.image.now - 64
 unfolding body
-long c = omega (arith, c.clear_all.auto, length-body c.args.image.now)
+long c = omega (arith, c.clear_all.auto.image, length-body c.args.image.now)
 
 pub start_tail-requires : goal.start_tail-requires
 start_tail-requires c =

@@ -1,5 +1,6 @@
 -- `tails::tail::rest_zero` meets its contract. The loop's invariant: what is left decides. The measure is what is left of the 64 bytes.
 use mathlib.Core.Path.{◌≡◌, refl, sym, ◌∙◌}
+use mathlib.Core.List.{[]}
 use native.Mathlib.Omega.{arith}
 use lib.ListN.{drop, drop_of_length-le}
 use lib.Seq.{drop-drop}
