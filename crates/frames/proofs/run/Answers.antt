@@ -1,7 +1,7 @@
 -- `run`: pieces of the input have led to the image and the bytes held; it ends, since the measure is the turns that are left.
 use native.Mathlib.Omega.{arith}
 use mathlib.Core.Path.{sym, ◌∙◌}
-use Rattle.frames.proofs.RunLaws.{came-none, came-more}
+use Rattle.frames.proofs.RunLaws.{came-none, came-more, on-ok}
 use Rattle.frames.proofs.run.Goals as goal
 
 pub loop-turns-init : goal.loop-turns-init
@@ -44,7 +44,7 @@ shape_of-out c =
 
 pub returns : goal.returns
 returns c =
-    record { img = _; held = _; came = c.loop-turns.invariant.4; n = _; out = _; ends = c.finish-n.ensures }
+    on-ok c.print.result (record { img = _; held = _; came = c.loop-turns.invariant.4; n = _; out = _; ends = c.finish-n.ensures })
 
 pub overflow_sub-turns : goal.overflow_sub-turns
 overflow_sub-turns c = omega arith
