@@ -1,5 +1,4 @@
 -- A row of asks is swept three times: every entry is ready at each, and what the three leave is the row of the image with its tail.
-use Rattle.std.proofs.Common.{◌≡◌}
 use Rattle.crumbmap.specs.Layouts.{layout1}
 use Rattle.buckets.proofs.BucketLaws.{fits1}
 use Rattle.form.proofs.TailLaws.{opened-known}

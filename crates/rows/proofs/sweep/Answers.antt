@@ -14,10 +14,12 @@ use Rattle.rows.proofs.sweep.Goals as goal
 
 small : (c : After-turn-t) → (get_or c.loop-i.row c.loop-i.i blank).hash < 2 ^ 64
 small c =
+    let a = c.args in
+    let e = get_or c.loop-i.row c.loop-i.i blank in
     let r = c.turn-t.result in
     let b : r.entry.hash < 2 ^ 64 = (owed T.the_type T'.the_laws r.entry _ (owed U.the_type U'.the_laws r _ c.turn-t.type_inv).1.0).0.1 in
-    omega (arith, ap (λ (t : Turned). t.entry.hash) c.turn-t.ensures
-    ∙ hash_stays layout1 (body c.args.image.now) c.args.start.phase c.loop-i.s (get_or c.loop-i.row c.loop-i.i blank))
+    let same : r.entry.hash ≡ e.hash = ap (λ (t : Turned). t.entry.hash) c.turn-t.ensures ∙ hash_stays layout1 (body a.image.now) a.start.phase c.loop-i.s e in
+    omega arith
 
 pub loop-i-preserved : goal.loop-i-preserved
 loop-i-preserved c =
