@@ -38,8 +38,10 @@ pub returns-in_default-form_size : goal.returns-in_default-form_size
 unfolding merge_of
 returns-in_default-form_size c =
     let img = c.args.second.now in
-    rw (whole-sized (first (goal.at.returns-in_default-form_size c).In-Buckets), form-none img (size_none (size_of (length img - 64)) c.form_size-2.ensures c.in_default-form_size.is))
-    record { answer = refl; bytes = refl }
+    rw (
+      whole-sized (first (goal.at.returns-in_default-form_size c).In-Buckets),
+      form-none img (size_none (size_of (length img - 64)) c.form_size-2.ensures c.in_default-form_size.is),
+    ) record { answer = refl; bytes = refl }
 
 pub returns-in_default-form_size-2 : goal.returns-in_default-form_size-2
 unfolding merge_of
@@ -74,7 +76,11 @@ returns-then-size-into c =
 
 pub merge_sized-requires : goal.merge_sized-requires
 merge_sized-requires c =
-    (first (goal.at.merge_sized-requires c).In-Buckets, rw c.if-size-other.false (second (goal.at.merge_sized-requires c).In-Buckets-form_size), rw c.if-size-into.false (target (goal.at.merge_sized-requires c).In-Buckets-form_size-2))
+    let at = goal.at.merge_sized-requires c in (
+      first at.In-Buckets,
+      rw c.if-size-other.false (second at.In-Buckets-form_size),
+      rw c.if-size-into.false (target at.In-Buckets-form_size-2),
+    )
 
 pub returns : goal.returns
 unfolding merge_of

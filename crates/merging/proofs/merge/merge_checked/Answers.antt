@@ -32,7 +32,10 @@ pub start_tail-requires : goal.start_tail-requires
 start_tail-requires c =
     let old = c.args.target.now in
     let end = length old - 64 in
-    rw (end-lent end c.merge_bodies.new.target (drop end old) (long (goal.at.start_tail-requires c).After-merge_bodies), rest_part old refl) (length_rest old (whole_long old c.requires.1))
+    rw (
+      end-lent end c.merge_bodies.new.target (drop end old) (long (goal.at.start_tail-requires c).After-merge_bodies),
+      rest_part old refl,
+    ) (length_rest old (whole_long old c.requires.1))
 
 pub returns-then-merge_bodies : goal.returns-then-merge_bodies
 returns-then-merge_bodies c =

@@ -57,18 +57,22 @@ shape_of-over-then-not-merge_front c = (scratch (goal.at.shape_of-over-then-not-
 
 pub returns-then-not-merge_front : goal.returns-then-not-merge_front
 returns-then-not-merge_front c =
-    fronts-full c.loop-f.invariant.0 (first (goal.at.returns-then-not-merge_front c).After-slice_known-1) (second (goal.at.returns-then-not-merge_front c).After-slice_known-1) (inside (goal.at.returns-then-not-merge_front c).In-loop-f) c.merge_front.result c.merge_front.new.target
-    c.merge_front.ensures c.if-not-merge_front.true
+    let at = goal.at.returns-then-not-merge_front c in
+    let m = c.merge_front in
+    fronts-full c.loop-f.invariant.0 (first at.After-slice_known-1) (second at.After-slice_known-1) (inside at.In-loop-f) m.result m.new.target m.ensures
+    c.if-not-merge_front.true
 
 pub overflow_add-f : goal.overflow_add-f
 overflow_add-f c = omega (arith, c.requires.1.first.size.small)
 
 pub loop-f-preserved : goal.loop-f-preserved
-loop-f-preserved c = (
-  fronts-on c.loop-f.invariant.0 (first (goal.at.loop-f-preserved c).After-slice_known-1) (second (goal.at.loop-f-preserved c).After-slice_known-1) (inside (goal.at.loop-f-preserved c).In-loop-f) c.merge_front.result c.merge_front.new.target
-      c.merge_front.ensures fits1 c.if-not-merge_front.false c.merge_front.auto.target (λ i. (c.slice_known-in-loop-f-1.given i).fits),
-  scratch (goal.at.loop-f-preserved c).After-merge_front,
-)
+loop-f-preserved c =
+    let at = goal.at.loop-f-preserved c in
+    let m = c.merge_front in (
+      fronts-on c.loop-f.invariant.0 (first at.After-slice_known-1) (second at.After-slice_known-1) (inside at.In-loop-f) m.result m.new.target m.ensures
+          fits1 c.if-not-merge_front.false m.auto.target (λ i. (c.slice_known-in-loop-f-1.given i).fits),
+      scratch at.After-merge_front,
+    )
 
 pub shape_of-target : goal.shape_of-target
 shape_of-target c = c.loop-f.invariant.0.same

@@ -35,7 +35,10 @@ pub returns-in_default-tail_at : goal.returns-in_default-tail_at
 unfolding merge_sized_of
 returns-in_default-tail_at c =
     let a = c.args in
-    rw (mine (goal.at.returns-in_default-tail_at c).In-Good, tail-bad a.size a.second.now c.tail_at-2.ensures c.in_default-tail_at.is) record { answer = refl; bytes = refl }
+    rw (
+      mine (goal.at.returns-in_default-tail_at c).In-Good,
+      tail-bad a.size a.second.now c.tail_at-2.ensures c.in_default-tail_at.is,
+    ) record { answer = refl; bytes = refl }
 
 pub overflow_sub-end : goal.overflow_sub-end
 overflow_sub-end c = whole_long c.args.first.now c.requires.0
