@@ -3,14 +3,20 @@
 use mathlib.Core.Path.{sym, ◌∙◌}
 use Prim.Native.Nat.{◌<◌}
 use native.Mathlib.Omega.{arith}
-use borrow.Author.Tests.{not-true, not-false}
 use Rattle.crumbmap.specs.Layouts.{layout1, fronts}
 use Rattle.buckets.proofs.BucketLaws.{fits1}
 use Rattle.joining.specs.Steps.Joins.{Scratch}
+use Rattle.joining.proofs.CheckedImages.{Known, known}
 use Rattle.merging.proofs.MergeSteps.{fronts-start, fronts-merging, fronts-full, fronts-on, fronts-end}
-use Rattle.merging.proofs.merge.merge_fronts.Invariants.{first, second}
 use Rattle.merging.proofs.merge.merge_fronts.Goals.{After-merge_front, After-slice_known-1, In-loop-f}
 use Rattle.merging.proofs.merge.merge_fronts.Goals as goal
+
+-- both sources are known
+first : (c : After-slice_known-1) → Known layout1 c.args.size c.args.first.now
+first c = known fits1 (λ i. (c.type_inv.first i).fits) c.requires.1.first
+
+second : (c : After-slice_known-1) → Known layout1 c.args.size c.args.second.now
+second c = known fits1 (λ i. (c.type_inv.second i).fits) c.requires.1.second
 
 -- f is the number of a front bucket
 inside : (c : In-loop-f) → c.loop-f.f < fronts c.args.size
@@ -18,15 +24,14 @@ unfolding fronts
 inside c = omega arith
 
 -- the lists to work in keep their room
-scratch : (d : After-merge_front) → let l = d.merge_front.new in
-    Scratch layout1 l.1.1.1.1.1.1.0 l.1.1.1.1.1.1.1.0 l.1.1.1.1.1.1.1.1.0
+scratch : (d : After-merge_front) → let l = d.merge_front.new in Scratch layout1 l.a l.b l.over
 scratch d =
     let k = d.merge_front.auto in
     let s = d.loop-f.invariant.1 in
     record {
-      first = k.1.1.1.1.1.1.0 ∙ s.first;
-      second = k.1.1.1.1.1.1.1.0 ∙ s.second;
-      leaving = k.1.1.1.1.1.1.1.1.0 ∙ s.leaving;
+      first = k.a ∙ s.first;
+      second = k.b ∙ s.second;
+      leaving = k.over ∙ s.leaving;
     }
 
 pub overflow_mul-end : goal.overflow_mul-end
@@ -35,7 +40,7 @@ overflow_mul-end c = omega (arith, c.requires.1.first.size.small)
 pub loop-f-init : goal.loop-f-init
 loop-f-init c =
     let p = c.requires in
-    (fronts-start fits1 p.1 p.2 (λ i. (c.slice_known-1.given i).fits), p.3)
+    (fronts-start fits1 p.1 p.2 (λ i. (c.type_inv.target i).fits), p.3)
 
 pub merge_front-requires : goal.merge_front-requires
 merge_front-requires c =
@@ -43,7 +48,7 @@ merge_front-requires c =
     (c.requires.0, fronts-merging v.0 (inside (goal.at.merge_front-requires c).In-loop-f) c.requires.1, v.1)
 
 pub shape_of-target-then-not-merge_front : goal.shape_of-target-then-not-merge_front
-shape_of-target-then-not-merge_front c = c.merge_front.kept.1.1.1.1.1.0 ∙ c.loop-f.invariant.0.same
+shape_of-target-then-not-merge_front c = c.merge_front.auto.target ∙ c.loop-f.invariant.0.same
 
 pub shape_of-a-then-not-merge_front : goal.shape_of-a-then-not-merge_front
 shape_of-a-then-not-merge_front c = (scratch (goal.at.shape_of-a-then-not-merge_front c).After-merge_front).first ∙ sym c.requires.3.first
@@ -56,19 +61,18 @@ shape_of-over-then-not-merge_front c = (scratch (goal.at.shape_of-over-then-not-
 
 pub returns-then-not-merge_front : goal.returns-then-not-merge_front
 returns-then-not-merge_front c =
-    fronts-full c.loop-f.invariant.0 (first (goal.at.returns-then-not-merge_front c).After-slice_known-1) (second (goal.at.returns-then-not-merge_front c).After-slice_known-1) (inside (goal.at.returns-then-not-merge_front c).In-loop-f) c.merge_front.result c.merge_front.last.1.1.1.1.1.0
-    c.merge_front.ensures (not-true _ c.if-not-merge_front.true)
+    fronts-full c.loop-f.invariant.0 (first (goal.at.returns-then-not-merge_front c).After-slice_known-1) (second (goal.at.returns-then-not-merge_front c).After-slice_known-1) (inside (goal.at.returns-then-not-merge_front c).In-loop-f) c.merge_front.result c.merge_front.new.target
+    c.merge_front.ensures c.if-not-merge_front.true
 
 pub overflow_add-f : goal.overflow_add-f
 overflow_add-f c = omega (arith, c.requires.1.first.size.small)
 
 pub loop-f-preserved : goal.loop-f-preserved
-loop-f-preserved c =
-    (
-      fronts-on c.loop-f.invariant.0 (first (goal.at.loop-f-preserved c).After-slice_known-1) (second (goal.at.loop-f-preserved c).After-slice_known-1) (inside (goal.at.loop-f-preserved c).In-loop-f) c.merge_front.result c.merge_front.last.1.1.1.1.1.0
-          c.merge_front.ensures fits1 (not-false _ c.if-not-merge_front.false) c.merge_front.kept.1.1.1.1.1.0 (λ (goal.at.loop-f-preserved c).In-loop-f. (c.slice_known-in-loop-f-1.given (goal.at.loop-f-preserved c).In-loop-f).fits),
-      scratch (goal.at.loop-f-preserved c).After-merge_front,
-    )
+loop-f-preserved c = (
+  fronts-on c.loop-f.invariant.0 (first (goal.at.loop-f-preserved c).After-slice_known-1) (second (goal.at.loop-f-preserved c).After-slice_known-1) (inside (goal.at.loop-f-preserved c).In-loop-f) c.merge_front.result c.merge_front.new.target
+      c.merge_front.ensures fits1 c.if-not-merge_front.false c.merge_front.auto.target (λ i. (c.type_inv.target i).fits),
+  scratch (goal.at.loop-f-preserved c).After-merge_front,
+)
 
 pub shape_of-target : goal.shape_of-target
 shape_of-target c = c.loop-f.invariant.0.same

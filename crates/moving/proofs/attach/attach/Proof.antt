@@ -16,8 +16,8 @@ use Rattle.moving.proofs.attach.attach.Statement.{statement}
 use Rattle.moving.proofs.attach.attach.Tie as tie
 
 -- the points of the walk: both have a size; the sizes are compared; the start
-abbrev compared : tie.In-Buckets-2 → tie.After-shared_size
-compared c = c.before.before
+abbrev compared : tie.In-Buckets → tie.After-shared_size
+compared c = c.before
 
 abbrev start : tie.After-shared_size → tie.Start
 start c = c.before.before.before.before.before
@@ -31,31 +31,30 @@ shared c =
     c.before.form_size.ensures c.shared_size.ensures
 
 -- the size of both
-sizes : (c : tie.In-Buckets-2) → let a = (start (compared c)).args in
-    Whole c.size-1.given.0.0 a.old.now × Whole c.size-1.given.0.0 (body a.target.now)
+sizes : (c : tie.In-Buckets) → let a = (start (compared c)).args in
+    Whole c.in-Buckets.size a.old.now × Whole c.in-Buckets.size (body a.target.now)
 sizes c =
     let a = (start (compared c)).args in
-    let s = sizes-shared (size_of (length a.old.now)) (size_of (length a.target.now - 64)) (sym (shared (compared c)) ∙ c.size-1.given.1) in
+    let s = sizes-shared (size_of (length a.old.now)) (size_of (length a.target.now - 64)) (sym (shared (compared c)) ∙ c.in-Buckets.is) in
     (whole_of a.old.now s.0, form-whole a.target.now s.1)
 
 attach_sized-requires : tie.Need-attach_sized-requires
-attach_sized-requires c κs = sizes c.before.before
+attach_sized-requires c κs = sizes c.before
 
 returns-in-Refused : tie.Need-returns-in-Refused
 unfolding attach_of
 returns-in-Refused c =
-    let k = c.before.before.before in
+    let k = c.before in
     let a = (start k).args in
-    let w = c.before.why-1 in
     rw (length-body a.target.now)
-    (move-refused _ a.target.now w.given.0.0
-    (sizes-refused (size_of (length a.old.now)) (size_of (length a.target.now - 64)) (λ B. attach_at B a.old.now) (sym (shared k) ∙ w.given.1)))
+    (move-refused _ a.target.now c.in-Refused.why
+    (sizes-refused (size_of (length a.old.now)) (size_of (length a.target.now - 64)) (λ B. attach_at B a.old.now) (sym (shared k) ∙ c.in-Refused.is)))
 
 returns-in-Buckets : tie.Need-returns-in-Buckets
 unfolding attach_of
 returns-in-Buckets c =
     let m = c.before.before in
-    let s = m.before.before.before in
+    let s = m.before.before in
     let a = (start (compared s)).args in
     rw (moved_on a.old.now (body a.target.now) (λ B. attach_at B a.old.now) (sizes s).0 (sizes s).1) m.attach_sized.ensures
 

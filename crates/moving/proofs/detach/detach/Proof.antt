@@ -16,8 +16,8 @@ use Rattle.moving.proofs.detach.detach.Statement.{statement}
 use Rattle.moving.proofs.detach.detach.Tie as tie
 
 -- the points of the walk: both have a size; the sizes are compared; the start
-abbrev compared : tie.In-Buckets-2 → tie.After-shared_size
-compared c = c.before.before
+abbrev compared : tie.In-Buckets → tie.After-shared_size
+compared c = c.before
 
 abbrev start : tie.After-shared_size → tie.Start
 start c = c.before.before.before.before.before
@@ -31,31 +31,30 @@ shared c =
     c.before.size_of.ensures c.shared_size.ensures
 
 -- the size of both
-sizes : (c : tie.In-Buckets-2) → let a = (start (compared c)).args in
-    Whole c.size-1.given.0.0 (body a.image.now) × Whole c.size-1.given.0.0 a.target.now
+sizes : (c : tie.In-Buckets) → let a = (start (compared c)).args in
+    Whole c.in-Buckets.size (body a.image.now) × Whole c.in-Buckets.size a.target.now
 sizes c =
     let a = (start (compared c)).args in
-    let s = sizes-shared (size_of (length a.image.now - 64)) (size_of (length a.target.now)) (sym (shared (compared c)) ∙ c.size-1.given.1) in
+    let s = sizes-shared (size_of (length a.image.now - 64)) (size_of (length a.target.now)) (sym (shared (compared c)) ∙ c.in-Buckets.is) in
     (form-whole a.image.now s.0, whole_of a.target.now s.1)
 
 detach_sized-requires : tie.Need-detach_sized-requires
-detach_sized-requires c κs = sizes c.before.before
+detach_sized-requires c κs = sizes c.before
 
 returns-in-Refused : tie.Need-returns-in-Refused
 unfolding detach_of
 returns-in-Refused c =
-    let k = c.before.before.before in
+    let k = c.before in
     let a = (start k).args in
-    let w = c.before.why-1 in
     rw (length-body a.image.now)
-    (move-refused _ a.target.now w.given.0.0
-    (sizes-refused (size_of (length a.image.now - 64)) (size_of (length a.target.now)) (λ B. detach_at B a.image.now) (sym (shared k) ∙ w.given.1)))
+    (move-refused _ a.target.now c.in-Refused.why
+    (sizes-refused (size_of (length a.image.now - 64)) (size_of (length a.target.now)) (λ B. detach_at B a.image.now) (sym (shared k) ∙ c.in-Refused.is)))
 
 returns-in-Buckets : tie.Need-returns-in-Buckets
 unfolding detach_of
 returns-in-Buckets c =
     let m = c.before.before in
-    let s = m.before.before.before in
+    let s = m.before.before in
     let a = (start (compared s)).args in
     rw (moved_on (body a.image.now) a.target.now (λ B. detach_at B a.image.now) (sizes s).0 (sizes s).1) m.detach_sized.ensures
 
