@@ -2,32 +2,42 @@
 
 #![tactic(auto)]
 
+use reading::fill;
 use script::perform::step;
+use std::io;
+use std::io::{Stdin, Stdout, Write};
 use stored::Outcome;
 use stored::images::State;
 use stored::said::put_said;
 
 // The answer of a call is printed; the state after what was done.
-fn told(done: Outcome, state: State) -> State {
+fn told(output: Stdout, done: Outcome, state: State) -> io::Result<State> {
     match done {
-        Outcome::State(next) => next,
+        Outcome::State(next) => Ok(next),
         Outcome::Said(operation, answer, sum) => {
-            print(operation, answer, sum);
-            state
+            print(output, operation, answer, sum)?;
+            Ok(state)
         }
-        Outcome::Nothing => state,
+        Outcome::Nothing => Ok(state),
     }
 }
 
 // The line that answers a call, on standard output.
-fn print(operation: u64, answer: u64, sum: u64) {
+fn print(mut output: Stdout, operation: u64, answer: u64, sum: u64) -> io::Result<()> {
     let mut text = [10u8; 35];
     put_said(&mut text, operation, answer, sum);
-    io::write_all(1, &text);
+    output.write_all(&text)
 }
 
 // Line after line. A proved loop has to end, and nothing says that the input does: the turns are counted down from a number that no run uses up.
-fn run(a: &mut [u8], b: &mut [u8], c: &mut [u8], out: &mut [u64]) {
+fn run(
+    mut input: Stdin,
+    output: Stdout,
+    a: &mut [u8],
+    b: &mut [u8],
+    c: &mut [u8],
+    out: &mut [u64],
+) -> io::Result<()> {
     let mut text = [0u8; 30];
     let mut state = State {
         a: 0,
@@ -37,20 +47,22 @@ fn run(a: &mut [u8], b: &mut [u8], c: &mut [u8], out: &mut [u64]) {
     };
     let mut turns = u64::MAX;
     while 0 < turns {
-        let n = io::read_full(0, &mut text);
+        let n = fill(&mut input, &mut text)?;
         if n < 30 {
-            return;
+            return Ok(());
         }
         let done = step(&text, state, a, b, c, out);
-        state = told(done, state);
+        state = told(output, done, state)?;
         turns -= 1;
     }
+    Ok(())
 }
 
-fn main() {
+// A read or a write that fails ends the program with its error.
+fn main(rt: HostRuntime) -> io::Result<()> {
     let mut a = [0u8; 12864];
     let mut b = [0u8; 12864];
     let mut c = [0u8; 12864];
     let mut out = [0u64; 512];
-    run(&mut a, &mut b, &mut c, &mut out);
+    run(rt.stdin(), rt.stdout(), &mut a, &mut b, &mut c, &mut out)
 }

@@ -12,7 +12,7 @@ loop-at-init c =
 pub step-s-requires : goal.step-s-requires
 step-s-requires c =
     let l = c.loop-at.invariant in
-    (record { image = l.1; longest = l.2; few = l.4; text = l.3 }, (c.requires.1, l.0))
+    record { room = record { image = l.1; longest = l.2; few = l.4; text = l.3 }; n_in_bounds = (c.requires.1, l.0) }
 
 pub print-requires : goal.print-requires
 print-requires c = c.step-s.ensures.room
@@ -33,7 +33,7 @@ loop-at-preserved c =
     let l = c.loop-at.invariant in
     let k = c.step-s.auto in
     let e = c.step-s.ensures in
-    (u.0, k.0 ∙ l.1, k.1.1.1.1.0 ∙ l.2, k.1.1.1.1.1.1.0 ∙ l.3, e.few, took_more l.5 e)
+    (u.0, k.image ∙ l.1, k.line ∙ l.2, k.out ∙ l.3, e.few, took_more l.5 e)
 
 pub shape_of-image : goal.shape_of-image
 shape_of-image c = c.loop-at.invariant.1 ∙ sym c.requires.0.image

@@ -1,4 +1,4 @@
--- The image by the turns that led to it. What was read and what was printed no contract can say of the C functions: here they are some pieces and some text.
+-- The image by the turns that led to it. What was read and what was printed no contract can say of standard input and output: here they are some pieces and some text.
 use Rattle.std.specs.Prelude.{ℕ, List}
 use Rattle.lines.specs.Steps.Turns.{Taken, Run, Ends}
 

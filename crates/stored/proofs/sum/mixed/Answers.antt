@@ -10,4 +10,4 @@ overflow_mul-high c = omega (arith, xor_lt 64 c.args.sum c.args.byte c.ranges.su
 
 pub returns : goal.returns
 unfolding mix
-returns c = c.wrapping_add_u64-2.ensures ∙ rw c.wrapping_add_u64.ensures (mix-parts _)
+returns c = c.wrapping_add_u64-2.ensures.value ∙ rw c.wrapping_add_u64.ensures.value (mix-parts _)
