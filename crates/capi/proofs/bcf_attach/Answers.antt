@@ -24,4 +24,4 @@ pub packed-requires : goal.packed-requires
 packed-requires c = let a = c.args in rw (said c) (within-packs (attach-fits a.old.now a.target.now))
 
 pub returns : goal.returns
-returns c = (c.packed.ensures ∙ rw (said (goal.at.returns c).After-done), c.attach.ensures.bytes)
+returns c = record { value = c.packed.ensures ∙ rw (said (goal.at.returns c).After-done); target_after = c.attach.ensures.bytes }

@@ -24,4 +24,4 @@ pub packed-requires : goal.packed-requires
 packed-requires c = let a = c.args in rw (said c) (within-packs (fresh-fits a.image.now))
 
 pub returns : goal.returns
-returns c = (c.packed.ensures ∙ rw (said (goal.at.returns c).After-done), c.fresh.ensures.bytes)
+returns c = record { value = c.packed.ensures ∙ rw (said (goal.at.returns c).After-done); image_after = c.fresh.ensures.bytes }

@@ -18,4 +18,4 @@ pub packed-requires : goal.packed-requires
 packed-requires c = rw (said c) (within-packs (insert-fits c.args.image.now c.args.hash c.ranges.hash.fits))
 
 pub returns : goal.returns
-returns c = (c.packed.ensures ∙ rw (said (goal.at.returns c).After-changed), c.insert.ensures.bytes)
+returns c = record { value = c.packed.ensures ∙ rw (said (goal.at.returns c).After-changed); image_after = c.insert.ensures.bytes }

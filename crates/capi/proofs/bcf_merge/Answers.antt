@@ -26,4 +26,4 @@ packed-requires c =
     rw (said c) (within-packs (merge-fits a.first.now a.second.now a.target.now))
 
 pub returns : goal.returns
-returns c = (c.packed.ensures ∙ rw (said (goal.at.returns c).After-done), c.merge.ensures.bytes)
+returns c = record { value = c.packed.ensures ∙ rw (said (goal.at.returns c).After-done); target_after = c.merge.ensures.bytes }

@@ -27,4 +27,4 @@ packed-requires c =
     rw (said c) (within-packs (occupancy-fits a.image.now a.page (length a.out.now)))
 
 pub returns : goal.returns
-returns c = (c.packed.ensures ∙ rw (said (goal.at.returns c).After-done), c.occupancy.ensures.bytes)
+returns c = record { value = c.packed.ensures ∙ rw (said (goal.at.returns c).After-done); out_after = c.occupancy.ensures.bytes }

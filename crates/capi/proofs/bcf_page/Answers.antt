@@ -32,4 +32,4 @@ packed-requires c =
     rw (said c) (within-packs (page-fits a.image.now a.start a.changes (length a.out.now)))
 
 pub returns : goal.returns
-returns c = (c.packed.ensures ∙ rw (said (goal.at.returns c).After-paged), c.page.ensures.bytes)
+returns c = record { value = c.packed.ensures ∙ rw (said (goal.at.returns c).After-paged); out_after = c.page.ensures.bytes }

@@ -8,8 +8,8 @@ use Rattle.capi.proofs.bcf_tail.Goals as goal
 pub packed-requires : goal.packed-requires
 packed-requires c =
     let a = c.args in
-    rw (c.tailed.ensures.0, c.tail.ensures) (within-packs (tail-fits a.image.now (length a.out.now)))
+    rw (c.tailed.ensures.value, c.tail.ensures) (within-packs (tail-fits a.image.now (length a.out.now)))
 
 pub returns : goal.returns
 returns c =
-    (c.packed.ensures ∙ rw (c.tailed.ensures.0, c.tail.ensures), c.tailed.ensures.1 ∙ rw c.tail.ensures)
+    record { value = c.packed.ensures ∙ rw (c.tailed.ensures.value, c.tail.ensures); out_after = c.tailed.ensures.out_after ∙ rw c.tail.ensures }
