@@ -20,7 +20,7 @@ use Rattle.crumbmap.specs.declared.Overflow.{Overflow}
 use Rattle.buckets.specs.Buckets.{Fits64}
 use Rattle.minifilter.specs.declared.Reading.{Reading}
 use Rattle.minifilter.specs.declared.Reading.TheVariants as R
-use Rattle.machine.specs.Results.{Result, accepted, refused, and_then}
+use Rattle.machine.specs.Results.{Result, accepted, refused}
 use Rattle.machine.specs.Images.{size_of, front_at, back_at, in_front, in_back}
 use Rattle.machine.specs.Machine.{backyard, ask_at}
 use Rattle.machine.proofs.AskLaws.{ask_behind, ask-behind}

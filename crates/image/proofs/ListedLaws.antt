@@ -1,7 +1,7 @@
 -- A list written into a lent slice: from the bytes of a bucket, its length, its part, and two of them joined.
 use mathlib.Core.Path.{◌≡◌, sym, ◌∙◌, ap}
 use Prim.Native.Nat.{ℕ, ◌+◌, ◌-◌, ◌≤◌}
-use mathlib.Core.List.{List, [], ◌∷◌, ◌++◌, map, append_assoc, append-nil}
+use mathlib.Core.List.{List, ◌++◌, map, append_assoc, append-nil}
 use native.Mathlib.Omega.{arith}
 use lib.ListN.{length, take, drop, length-append, length-drop, length-map, drop_of_length-le, take-append-drop}
 use lib.Seq.{take_at, take_all, drop_at, drop-append-le, drop-drop}

@@ -4,17 +4,22 @@ use mathlib.Core.Path.{◌≡◌, refl, sym, ◌∙◌, ap, subst}
 use Prim.Native.Nat.{ℕ, suc, ◌+◌, ◌^◌, ◌<◌, ◌≤◌}
 use native.Mathlib.Numerals.{add-one}
 use native.Mathlib.Omega.{arith}
+use mathlib.Core.Bool.{Bool, true, false, cond}
 use mathlib.Core.List.{List, ◌∷◌, ◌++◌, append_assoc, append-nil}
 use lib.ListN.{length, take, drop, get_or, set, length-set}
+use lib.Dec.{eqb}
 use lib.Seq.{drop-cons, drop-set-lt, take-suc-set, drop-length, take-length}
 use Rattle.multiset.specs.Multisets.{Below}
 use Rattle.crumbmap.specs.Layouts.{Layout, known}
 use Rattle.buckets.specs.Buckets.{Fits64}
+use Rattle.machine.specs.Results.{Result, accepted, refused}
+use Rattle.machine.specs.Machine.{Asked}
+use Rattle.machine.specs.Calls.{ask_of}
 use Rattle.form.specs.Tails.{body}
 use Rattle.answers.specs.Rows.{hashes, rowed_of, Rows}
 use Rattle.answers.specs.declared.Entry.{Entry}
 use Rattle.answers.specs.declared.RowResult.{RowResult}
-use Rattle.grouping.specs.Steps.Grouping.{turned, Ready, begun, resumed, result_of}
+use Rattle.grouping.specs.Steps.Grouping.{fetched, tested, told_by, turned, Ready, begun, resumed, result_of}
 use Rattle.grouping.specs.declared.State.{State}
 use Rattle.grouping.specs.declared.Turned.{Turned}
 use Rattle.rows.specs.Steps.Sweeps.{state_from, row_from, ReadyFrom, state_after, row_after, AllReady}
@@ -24,6 +29,23 @@ use Rattle.rows.proofs.SweepLaws.{first-ready, second-ready, third-ready, all-sw
 -- an entry of noughts, for `get_or` past the end
 abbrev pub blank : Entry
 blank = record { hash = 0; reads = 0; place = 0; slot = 0; copies = 0 }
+
+abbrev turn : State → Entry → Turned
+turn s e = record { state = s; entry = e }
+
+-- an entry keeps its hash
+pub hash_stays : (L : Layout) (img : List ℕ) (p : ℕ) (s : State) (e : Entry) → (turned L img p s e).entry.hash ≡ e.hash
+unfolding turned
+hash_stays L img p s e = go (eqb p 0) (eqb p 1) (eqb p 2) (ask_of L img e.hash)
+  where
+    go : (a b c : Bool) (r : Result Asked)
+        → (cond a (turn (fetched img s e.hash) e) (cond b (turn (tested L img s e.hash) e) (cond c (turn s (told_by e r)) (turn s e)))).entry.hash
+        ≡ e.hash
+    go true b c r = refl
+    go false true c r = refl
+    go false false true (accepted a) = refl
+    go false false true (refused n i) = refl
+    go false false false r = refl
 
 -- where i entries are done: the state s and the list zs still lead to the end that s₀ and ys lead to, in the phase of s₀
 pub record Kept (L : Layout) (img : List ℕ) (s₀ : State) (ys : List Entry) (i : ℕ) (s : State) (zs : List Entry) : Type 0 where

@@ -13,7 +13,6 @@ use Rattle.multiset.specs.Multisets.{all_zero}
 use Rattle.crumbmap.specs.Layouts.{layout1, known}
 use Rattle.machine.specs.Results.{Result, accepted, refused, and_then}
 use Rattle.machine.specs.Images.{size_of, length_of, sized}
-use Rattle.machine.proofs.ImageLaws.{size_of-some}
 use Rattle.form.specs.Tails.{Header, body, rest, mark_of, tail_in, slots, headed, opened}
 use Rattle.form.proofs.TailLaws.{length-body}
 use Rattle.answers.specs.Answers.{refusal}

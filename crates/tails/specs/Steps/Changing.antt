@@ -1,5 +1,5 @@
 -- An insert or a delete of the body where the tail's total may stand at its bound: "after 4 and 5" it is refused with 12 there.
-use Rattle.std.specs.Prelude.{Bool, cond, List, ℕ}
+use Rattle.std.specs.Prelude.{Bool, cond}
 use Rattle.machine.specs.Results.{Result, accepted, refused, and_then}
 use Rattle.machine.specs.Machine.{Change}
 use Rattle.form.specs.Tails.{Tail}

@@ -8,13 +8,10 @@ bucket-b-requires c = front-in (record { whole = c.requires; front = c.front_of-
 
 pub returns : goal.returns
 returns c =
-    rw (c.wrapping_add_usize.ensures, c.bucket-b.ensures.0, c.front_of-front.ensures.0)
+    rw (c.wrapping_add_usize.ensures.value, c.bucket-b.ensures.0, c.front_of-front.ensures.0)
 
 pub front_of-front-requires : goal.front_of-front-requires
 front_of-front-requires c = let w = c.requires in (w.some, w.small)
 
 pub bounds-b-0 : goal.bounds-b-0
 bounds-b-0 c = omega (arith, c.bucket-b.ensures.1)
-
-pub overflow_cast-b : goal.overflow_cast-b
-overflow_cast-b c = record { fits = omega (arith, (c.shared_slice_known-2-1.given 0).fits) }

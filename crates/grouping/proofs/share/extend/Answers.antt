@@ -20,7 +20,7 @@ read : (c : After-share) {n : ℕ} → c.share.result ≡ S.Read n → let a = c
     GroupRead layout1 a.s.size a.front.0 a.image.now n × (0 < n) × (a.held ≤ n) × (n ≤ 3)
 read c e =
     let p = c.requires in
-    shared-read fits1 (λ i. (c.shared_slice_known-1.given i).fits) p.within c.args.key p.group p.few (told c e)
+    shared-read fits1 (λ i. (c.type_inv.image i).fits) p.within c.args.key p.group p.few (told c e)
 
 pub bound_of-requires : goal.bound_of-requires
 bound_of-requires c = let r = read (goal.at.bound_of-requires c).After-share c.in-Read.is in (r.0.front r.1, r.1)

@@ -14,8 +14,8 @@ use Rattle.grouping.proofs.share.share_first.Goals.{After-find_at, In-Members}
 use Rattle.grouping.proofs.share.share_first.Goals as goal
 
 -- b0, as it was read for the key
-reads : (c : In-Members) → let a = c.args in let g = c.members-1.given.0 in
-    Reads layout1 true a.size a.front.0 a.key a.image.now (record { way = c.first_of-way.result; members = g.0; below = g.1.0 })
+reads : (c : In-Members) → let a = c.args in
+    Reads layout1 true a.size a.front.0 a.key a.image.now (record { way = c.first_of-way.result; members = c.in-Members.members; below = c.in-Members.below })
 reads c =
     let a = c.args in
     way-read layout1 true c.first_of-way.ensures a.key a.image.now c.read_back_at.ensures c.in-Members.is

@@ -20,10 +20,10 @@ use Rattle.grouping.proofs.tell.tell.Tie as tie
 
 -- the points of the walk: a copy is in front, or none is; it was sought there; the bytes are lent; key and front bucket are known; the start
 abbrev told : tie.In-At → tie.After-seek_front
-told c = c.before.before.before
+told c = c.before
 
 abbrev denied : tie.In-Absent → tie.After-seek_front
-denied c = c.before.before
+denied c = c.before
 
 abbrev lent : tie.After-seek_front → tie.After-bucket
 lent c = c.before
@@ -69,12 +69,12 @@ members c = in_front layout1 (f c) (img c)
 found : (c : tie.After-seek_front) → let k = key (lent c) in c.seek_front.result ≡ search_of (found_in (x k) (members k))
 found c = rw (lent c).bucket.ensures.0 at c.seek_front.ensures
 
-here : (c : tie.In-At) → let k = key (lent (told c)) in let g = c.before.slot-1.given.0 in
-    found_in (x k) (members k) ≡ some (record { slot = g.0; copies = g.1.0 })
-here c = let k = key (lent (told c)) in search-some (found_in (x k) (members k)) (found (told c)) c.before.slot-1.given.1
+here : (c : tie.In-At) → let k = key (lent (told c)) in
+    found_in (x k) (members k) ≡ some (record { slot = c.in-At.slot; copies = c.in-At.copies })
+here c = let k = key (lent (told c)) in search-some (found_in (x k) (members k)) (found (told c)) c.in-At.is
 
 none_here : (c : tie.In-Absent) → let k = key (lent (denied c)) in found_in (x k) (members k) ≡ none
-none_here c = let k = key (lent (denied c)) in search-none (found_in (x k) (members k)) (found (denied c)) c.enum_told-1.given.1
+none_here c = let k = key (lent (denied c)) in search-none (found_in (x k) (members k)) (found (denied c)) c.in-Absent.is
 
 bucket-requires : tie.Need-bucket-requires
 bucket-requires c κs = front-in (within c)

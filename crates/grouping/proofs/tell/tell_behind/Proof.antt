@@ -21,10 +21,10 @@ use Rattle.grouping.proofs.tell.tell_behind.Tie as tie
 -- the points of the walk: it is in b1, or not; it was sought there; where that is; how many are read then; it is not in b0, or is; it was sought
 -- there; where that is; the bytes are known; the start
 abbrev told2 : tie.In-At-seek_at → tie.After-seek_at-in-Absent
-told2 c = c.before.before.before
+told2 c = c.before
 
 abbrev denied2 : tie.In-Absent-seek_at → tie.After-seek_at-in-Absent
-denied2 c = c.before.before
+denied2 c = c.before
 
 abbrev way2 : tie.After-seek_at-in-Absent → tie.After-second_of
 way2 c = c.before
@@ -36,10 +36,10 @@ abbrev absent : tie.After-second_of → tie.In-Absent
 absent c = (read-so-far c).before
 
 abbrev sought1 : tie.In-Absent → tie.After-seek_at
-sought1 c = c.before.before
+sought1 c = c.before
 
 abbrev told1 : tie.In-At → tie.After-seek_at
-told1 c = c.before.before.before
+told1 c = c.before
 
 abbrev way1 : tie.After-seek_at → tie.After-first_of
 way1 c = c.before
@@ -67,12 +67,12 @@ read1 c =
 found1 : (c : tie.After-seek_at) → c.seek_at.result ≡ search_of (found_in (member1 (way1 c)) (members1 (way1 c)))
 found1 c = let a = (start (way1 c)).args in way-found layout1 true (way1 c).first_of.ensures a.key a.image.now c.seek_at.ensures
 
-some1 : (c : tie.In-At) → let w = way1 (told1 c) in let g = c.before.slot-1.given.0 in
-    found_in (member1 w) (members1 w) ≡ some (record { slot = g.0; copies = g.1.0 })
-some1 c = let w = way1 (told1 c) in search-some (found_in (member1 w) (members1 w)) (found1 (told1 c)) c.before.slot-1.given.1
+some1 : (c : tie.In-At) → let w = way1 (told1 c) in
+    found_in (member1 w) (members1 w) ≡ some (record { slot = c.in-At.slot; copies = c.in-At.copies })
+some1 c = let w = way1 (told1 c) in search-some (found_in (member1 w) (members1 w)) (found1 (told1 c)) c.in-At.is
 
 none1 : (c : tie.In-Absent) → let w = way1 (sought1 c) in found_in (member1 w) (members1 w) ≡ none
-none1 c = let w = way1 (sought1 c) in search-none (found_in (member1 w) (members1 w)) (found1 (sought1 c)) c.enum_told-1.given.1
+none1 c = let w = way1 (sought1 c) in search-none (found_in (member1 w) (members1 w)) (found1 (sought1 c)) c.in-Absent.is
 
 -- the same of b1
 abbrev begun : tie.After-second_of → tie.After-first_of
@@ -103,12 +103,12 @@ read2 c =
 found2 : (c : tie.After-seek_at-in-Absent) → c.seek_at-in-Absent.result ≡ search_of (found_in (member2 (way2 c)) (members2 (way2 c)))
 found2 c = let a = (start (begun (way2 c))).args in way-found layout1 false (way2 c).second_of.ensures a.key a.image.now c.seek_at-in-Absent.ensures
 
-some2 : (c : tie.In-At-seek_at) → let w = way2 (told2 c) in let g = c.before.slot-in-At-seek_at-2-1.given.0 in
-    found_in (member2 w) (members2 w) ≡ some (record { slot = g.0; copies = g.1.0 })
-some2 c = let w = way2 (told2 c) in search-some (found_in (member2 w) (members2 w)) (found2 (told2 c)) c.before.slot-in-At-seek_at-2-1.given.1
+some2 : (c : tie.In-At-seek_at) → let w = way2 (told2 c) in
+    found_in (member2 w) (members2 w) ≡ some (record { slot = c.in-At-seek_at.slot; copies = c.in-At-seek_at.copies })
+some2 c = let w = way2 (told2 c) in search-some (found_in (member2 w) (members2 w)) (found2 (told2 c)) c.in-At-seek_at.is
 
 none2 : (c : tie.In-Absent-seek_at) → let w = way2 (denied2 c) in found_in (member2 w) (members2 w) ≡ none
-none2 c = let w = way2 (denied2 c) in search-none (found_in (member2 w) (members2 w)) (found2 (denied2 c)) c.enum_told-in-Absent-seek_at-1.given.1
+none2 c = let w = way2 (denied2 c) in search-none (found_in (member2 w) (members2 w)) (found2 (denied2 c)) c.in-Absent-seek_at.is
 
 seek_at-requires : tie.Need-seek_at-requires
 seek_at-requires c κs = (bag-read c.first_of.ensures (read1 c), (start c).requires.1)

@@ -21,7 +21,7 @@ returns-then-phase-eq0 c = rw (eq-eqb _ _ c.if-phase-eq0.true, c.fetch-next.ensu
 -- what the state says while the row is tested
 live : (c : Then-phase-eq1) → let a = c.args in Known layout1 (body a.image.now) a.s
 live c =
-    c.requires.testing c.if-phase-eq1.true (body_bytes c.args.image.now (λ i. (c.shared_slice_known-1.given i).fits))
+    c.requires.testing c.if-phase-eq1.true (body_bytes c.args.image.now (λ i. (c.type_inv.image i).fits))
 
 pub body_of-requires-then-phase-eq1 : goal.body_of-requires-then-phase-eq1
 body_of-requires-then-phase-eq1 c = whole_long c.args.image.now (live c).whole

@@ -7,5 +7,5 @@ use Rattle.image.proofs.back.read_back_at.Goals as goal
 pub returns : goal.returns
 returns c =
     let a = c.args in
-    back-says layout1 fits1 a.size a.bucket.0 a.member a.image.now c.requires.0 (λ i. (c.shared_slice_known-1.given i).fits)
+    back-says layout1 fits1 a.size a.bucket.0 a.member a.image.now c.requires.0 (λ i. (c.type_inv.image i).fits)
     (rw c.back_bucket.ensures.0 at c.read_back.ensures)

@@ -18,7 +18,7 @@ returns c =
     let a = c.args in
     ⊎_elim
     (λ u. let z : ◌≡◌ {A = ℕ} 0 1 = cc in absurd (omega arith))
-    (λ e. back-says layout1 fits1 a.size a.bucket.0 0 a.image.now c.requires (λ i. (c.shared_slice_known-1.given i).fits)
+    (λ e. back-says layout1 fits1 a.size a.bucket.0 0 a.image.now c.requires (λ i. (c.type_inv.image i).fits)
     (sym c.in-Members.is ∙ e
     ∙ ap (λ (b : List ℕ). reading_of 0 (back_members layout1 a.size a.bucket.0 b)) c.back_bucket.ensures.0))
     c.quick_back.ensures

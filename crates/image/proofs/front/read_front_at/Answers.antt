@@ -7,5 +7,5 @@ use Rattle.image.proofs.front.read_front_at.Goals as goal
 pub returns : goal.returns
 returns c =
     let a = c.args in
-    front-says layout1 fits1 a.front.0 a.key a.image.now c.requires.0 (λ i. (c.shared_slice_known-1.given i).fits)
+    front-says layout1 fits1 a.front.0 a.key a.image.now c.requires.0 (λ i. (c.type_inv.image i).fits)
     (rw c.bucket.ensures.0 at c.read_front.ensures)

@@ -7,5 +7,5 @@ use Rattle.image.proofs.front.sound_front_at.Goals as goal
 pub returns : goal.returns
 returns c =
     let a = c.args in
-    front-says layout1 fits1 a.front.0 0 a.image.now c.requires (λ i. (c.shared_slice_known-1.given i).fits)
+    front-says layout1 fits1 a.front.0 0 a.image.now c.requires (λ i. (c.type_inv.image i).fits)
     (rw c.bucket.ensures.0 at c.sound_front.ensures)

@@ -1,5 +1,4 @@
 -- `insertion::insert::insert_opened` meets its contract: 13, then the body's insert within the total's room, then the tail's new numbers.
-use mathlib.Core.Path.{◌≡◌}
 use Prim.Native.Nat.{◌+◌}
 use native.Mathlib.Omega.{arith}
 use lib.ListN.{take}

@@ -26,7 +26,7 @@ abbrev full : tie.After-list_members-n → tie.Else-count_front-lt-FRONT_SLOTS
 full c = c.before.before
 
 abbrev listed : tie.After-push_all-arg-2-1 → tie.After-list_members-n
-listed c = c.before.before.before.before
+listed c = c.before.before.before
 
 -- the source is known
 source : (c : tie.After-slice_known-1) → Known layout1 (start c).args.size (start c).args.source.now
@@ -71,10 +71,10 @@ slice_bounds-push_all-count : tie.Need-slice_bounds-push_all-count
 slice_bounds-push_all-count c = (enough c.before).0
 
 slice_bounds-push_all-start : tie.Need-slice_bounds-push_all-start
-slice_bounds-push_all-start c = (enough c.before.before).0
+slice_bounds-push_all-start c = (enough c.before).0
 
 slice_bounds-push_all-end : tie.Need-slice_bounds-push_all-end
-slice_bounds-push_all-end c = let m = c.before.before in omega (arith, m.list_members-n.auto.out, (enough m).1)
+slice_bounds-push_all-end c = let m = c.before in omega (arith, m.list_members-n.auto.out, (enough m).1)
 
 push_all-requires : tie.Need-push_all-requires
 push_all-requires c κs =

@@ -7,12 +7,12 @@ use Rattle.crumbmap.specs.Layouts.{layout1}
 use Rattle.buckets.proofs.BucketLaws.{fits1}
 use Rattle.joining.proofs.CheckedImages.{Known, known}
 use Rattle.joining.proofs.JoinLaws.{join-sharing, join-rest, join-behind, join-gone, join-on, join-full}
-use Rattle.joining.proofs.join.join.Goals.{After-in_front-own, After-slice_known-2-1}
+use Rattle.joining.proofs.join.join.Goals.{After-in_front-own}
 use Rattle.joining.proofs.join.join.Goals as goal
 
 -- the target is known
 target : (c : After-in_front-own) → Known layout1 c.args.size c.args.target.now
-target c = known fits1 (λ i. (c.slice_known-1.given i).fits) c.requires.1.into.checked
+target c = known fits1 (λ i. (c.type_inv.target i).fits) c.requires.1.into.checked
 
 pub slice_bounds-fill_both-end : goal.slice_bounds-fill_both-end
 slice_bounds-fill_both-end c = sym (length-take-le _ _ c.in_front-own.ensures.0)
@@ -20,7 +20,7 @@ slice_bounds-fill_both-end c = sym (length-take-le _ _ c.in_front-own.ensures.0)
 pub fill_both-gone-requires : goal.fill_both-gone-requires
 fill_both-gone-requires c =
     let j = c.requires.1 in
-    join-sharing fits1 (target (goal.at.fill_both-gone-requires c).After-slice_known-2-1) j.into j.first j.second c.in_front-own.result c.in_front-own.ensures c.requires.2
+    join-sharing fits1 (target (goal.at.fill_both-gone-requires c).After-in_front-own) j.into j.first j.second c.in_front-own.result c.in_front-own.ensures c.requires.2
 
 pub push_all-requires : goal.push_all-requires
 push_all-requires c =
@@ -33,7 +33,7 @@ push_all-requires c =
 
 pub slice_bounds-push_all-end-then-push_all-2 : goal.slice_bounds-push_all-end-then-push_all-2
 slice_bounds-push_all-end-then-push_all-2 c =
-    sym (length-take-le _ _ (omega (arith, c.fill_both-gone.ensures.0, c.fill_both-gone.kept)))
+    sym (length-take-le _ _ (omega (arith, c.fill_both-gone.ensures.0, c.fill_both-gone.auto.over)))
 
 pub push_all-requires-then-push_all : goal.push_all-requires-then-push_all
 push_all-requires-then-push_all c =
@@ -49,7 +49,7 @@ returns-then-push_all c =
     let j = c.requires.1 in
     let e = c.fill_both-gone.ensures in
     join-on fits1 (target (goal.at.returns-then-push_all c).After-in_front-own) j.into j.first j.second c.in_front-own.result c.in_front-own.ensures e.2 e.1
-    c.push_all.result c.push_all.last.1.1.1.1.0 c.push_all.ensures.0 c.if-push_all.true c.push_all-then-push_all.ensures.0
+    c.push_all.result c.push_all.new.target c.push_all.ensures.0 c.if-push_all.true c.push_all-then-push_all.ensures.0
 
 pub returns : goal.returns
 returns c =

@@ -18,8 +18,8 @@ lent c = c.before.before.before.before.before
 abbrev listed : tie.After-list_members-m → tie.After-list_members-n
 listed c = c.before.before.before.before
 
-abbrev listed2 : tie.After-join-arg4 → tie.After-list_members-m
-listed2 c = c.before.before.before.before.before.before
+abbrev listed2 : tie.After-join-arg-2-1 → tie.After-list_members-m
+listed2 c = c.before.before.before.before
 
 -- the members of either can be read
 first : (c : tie.After-slice_known-1) → MembersRead layout1 (start c).args.size (start c).args.front.0 (start c).args.first.now
@@ -42,13 +42,13 @@ slice_bounds-join-end : tie.Need-slice_bounds-join-end
 slice_bounds-join-end c = listed-fits (listed c.before.before).list_members-n.ensures
 
 slice_bounds-join-end-2 : tie.Need-slice_bounds-join-end-2
-slice_bounds-join-end-2 c = listed-length (listed c.before.before.before).list_members-n.ensures
+slice_bounds-join-end-2 c = listed-length (listed c.before.before).list_members-n.ensures
 
 slice_bounds-join-end-3 : tie.Need-slice_bounds-join-end-3
-slice_bounds-join-end-3 c = listed-fits c.before.before.before.list_members-m.ensures
+slice_bounds-join-end-3 c = listed-fits c.before.before.list_members-m.ensures
 
 slice_bounds-join-end-4 : tie.Need-slice_bounds-join-end-4
-slice_bounds-join-end-4 c = listed-length c.before.before.before.before.list_members-m.ensures
+slice_bounds-join-end-4 c = listed-length c.before.before.list_members-m.ensures
 
 join-requires : tie.Need-join-requires
 join-requires c κs =

@@ -10,13 +10,13 @@ use Rattle.joining.proofs.join.take_over.Goals as goal
 
 -- the three images are known
 first : (c : After-slice_known-1) → Known layout1 c.args.size c.args.first.now
-first c = known fits1 (λ i. (c.shared_slice_known-2-1.given i).fits) c.requires.1.from.first
+first c = known fits1 (λ i. (c.type_inv.first i).fits) c.requires.1.from.first
 
 second : (c : After-slice_known-1) → Known layout1 c.args.size c.args.second.now
-second c = known fits1 (λ i. (c.shared_slice_known-3-1.given i).fits) c.requires.1.from.second
+second c = known fits1 (λ i. (c.type_inv.second i).fits) c.requires.1.from.second
 
 target : (c : After-slice_known-1) → Known layout1 c.args.size c.args.target.now
-target c = known fits1 (λ i. (c.slice_known-1.given i).fits) c.requires.1.into.checked
+target c = known fits1 (λ i. (c.type_inv.target i).fits) c.requires.1.into.checked
 
 pub occupied_front-requires : goal.occupied_front-requires
 occupied_front-requires c =
@@ -42,7 +42,7 @@ add_behind-requires-then-add_behind c =
 pub returns-then-add_behind : goal.returns-then-add_behind
 returns-then-add_behind c =
     take_on fits1 (target (goal.at.returns-then-add_behind c).After-slice_known-1) c.requires.1.into (first (goal.at.returns-then-add_behind c).After-slice_known-1) (second (goal.at.returns-then-add_behind c).After-slice_known-1) c.requires.2 c.occupied_front.ensures.0 c.write_front_at.ensures
-    c.add_behind.result c.add_behind.last.1.1.1.1.0 c.add_behind.ensures.0 c.if-add_behind.true c.add_behind-then-add_behind.ensures.0
+    c.add_behind.result c.add_behind.new.target c.add_behind.ensures.0 c.if-add_behind.true c.add_behind-then-add_behind.ensures.0
 
 pub returns : goal.returns
 returns c =

@@ -1,19 +1,24 @@
 -- `listing::lists::in_order` meets its contract. The largest of the first part is at most the least of the second (`parts-order`).
-use mathlib.Core.Logic.{inl, inr, ⊎_elim}
+use mathlib.Core.Logic.{inl, inr}
 use Prim.Native.Nat.{◌<◌}
 use native.Mathlib.Omega.{arith}
-use borrow.Author.Tests.{leb-true, eqb-true, eqb-false}
+use borrow.Author.Tests.{leb-true}
 use Rattle.listing.proofs.MergedLists.{parts-empty, parts-order}
-use Rattle.listing.proofs.lists.in_order.Goals.{Else-from-end}
+use Rattle.listing.proofs.lists.in_order.Goals.{Else-from-end, then-from-eq0-via-then-from-eq0, then-from-eq0-via-else-from-eq0+then-from-end}
 use Rattle.listing.proofs.lists.in_order.Goals as goal
 
 pub returns-then-from-eq0 : goal.returns-then-from-eq0
-returns-then-from-eq0 c e = parts-empty c.requires (⊎_elim (λ w. inl w.taken) (λ w. inr (eqb-true _ _ w.1.taken)) c.then-from-eq0.branch)
+returns-then-from-eq0 c e =
+    parts-empty c.requires
+    elim c.then-from-eq0.branch [
+      | then-from-eq0-via-then-from-eq0 w ↦ inl w.if-from-eq0.true
+      | then-from-eq0-via-else-from-eq0+then-from-end w ↦ inr w.if-from-end.true
+    ]
 
 -- neither part is empty
 behind : (c : Else-from-end) → c.args.from < c.args.end
 behind c =
-    omega (arith, c.requires.split, eqb-false c.args.from c.args.end c.if-from-end.false)
+    omega (arith, c.requires.split, c.if-from-end.false)
 
 pub bounds-keys-from-2 : goal.bounds-keys-from-2
 bounds-keys-from-2 c = omega (arith, behind (goal.at.bounds-keys-from-2 c).Else-from-end, c.requires.inside)

@@ -1,13 +1,13 @@
 -- `listing::lists::merge_into` meets its contract. The merged list is what stands and the merge of what is left of both (`Merging`); where one has none
 -- left, that is the rest of the other.
 use mathlib.Core.Path.{◌≡◌, ◌∙◌}
-use mathlib.Core.Logic.{◌⊎◌, inl, inr, ⊎_elim}
+use mathlib.Core.Logic.{◌⊎◌, inl, inr}
 use Prim.Native.Nat.{◌+◌, ◌-◌, ◌≤◌, ◌<◌}
 use native.Mathlib.Omega.{arith}
 use lib.ListN.{length}
 use borrow.Author.Rules.{rules}
-use borrow.Author.Tests.{ltb-true, ltb-false}
 use Rattle.listing.proofs.MergedLists.{Merging, merging_start, merging-room, merging-on, merging-end, copied-length}
+use Rattle.listing.proofs.lists.merge_into.Lts.{then-loop-i-test+else-j-b, else-loop-i-test}
 use Rattle.listing.proofs.lists.merge_into.Statement.{statement}
 use Rattle.listing.proofs.lists.merge_into.Tie as tie
 
@@ -31,12 +31,15 @@ start c = c.before.before.before.before
 more_left : (c : tie.After-shared_slice_known-in-loop-i-2-1 invariant-loop-i decreases-loop-i) → (turn c).loop-i.i < length (start (turn c)).args.a.now
 more_left c = c.before.before.before.loop-i-test.true
 
+more_right : (c : tie.After-shared_slice_known-in-loop-i-2-1 invariant-loop-i decreases-loop-i) → (turn c).loop-i.j < length (start (turn c)).args.b.now
+more_right c = c.before.before.if-j-b.true
+
 bounds-b-j : tie.Need-bounds-b-j invariant-loop-i decreases-loop-i
-bounds-b-j c = ltb-true _ _ c.before.before.if-j-b.true
+bounds-b-j c = c.before.before.if-j-b.true
 
 done : (c : tie.Left-loop-i invariant-loop-i decreases-loop-i) → let l = c.before in
     (length (start l).args.a.now ≤ l.loop-i.i) ⊎ (length (start l).args.b.now ≤ l.loop-i.j)
-done c = ⊎_elim (λ w. inr (ltb-false _ _ w.1.left)) (λ w. inl (omega (arith, w.left))) c.loop-i-test.branch
+done c = elim c.loop-i-test.branch [ then-loop-i-test+else-j-b w ↦ inr w.if-j-b.false | else-loop-i-test w ↦ inl w.loop-i-test.false ]
 
 -- copying the rest of `a` leaves the length as it was
 first-room : (l : tie.At-loop-i invariant-loop-i decreases-loop-i) → let a = (start l).args in let i = l.loop-i in
@@ -55,7 +58,7 @@ overflow_add-out : tie.Need-overflow_add-out invariant-loop-i decreases-loop-i
 overflow_add-out c = let l = c.before.before.before.before.before.loop-i.invariant in omega (arith, l.left, l.right)
 
 bounds-out-i : tie.Need-bounds-out-i invariant-loop-i decreases-loop-i
-bounds-out-i c = let t = turn c.before in merging-room t.loop-i.invariant (start t).requires.2 (more_left c.before) (bounds-b-j c.before)
+bounds-out-i c = let t = turn c.before in merging-room t.loop-i.invariant (start t).requires.2 (more_left c.before) (more_right c.before)
 
 overflow_add-i : tie.Need-overflow_add-i invariant-loop-i decreases-loop-i
 overflow_add-i c = omega (arith, c.at_most-left.ensures.1)
@@ -74,7 +77,7 @@ loop-i-preserved c =
     let r = c.before.before in
     let t = turn r in
     let p = (start t).requires in
-    merging-on t.loop-i.invariant p.2 (more_left r) (bounds-b-j r) p.0 p.1
+    merging-on t.loop-i.invariant p.2 (more_left r) (more_right r) p.0 p.1
     c.before.lesser.ensures c.at_most-left.ensures.0
 
 overflow_add-i-2 : tie.Need-overflow_add-i-2 invariant-loop-i decreases-loop-i

@@ -9,7 +9,7 @@ use Rattle.machine.specs.Machine.{members_at}
 use Rattle.image.specs.Steps.ImageReads.{FrontRead, Reads}
 use Rattle.image.proofs.ImageReadLaws.{front-in, front-told, front-unsound, both-sound, both-unsound, both_read, bag-read}
 use Rattle.listing.proofs.ListingLaws.{bag-is, counting-few, counting-full, counting-unsound}
-use Rattle.listing.proofs.members.count_members.Goals.{After-count_bag-first, In-Members, In-Sound}
+use Rattle.listing.proofs.members.count_members.Goals.{In-Members, In-Sound}
 use Rattle.listing.proofs.members.count_members.Goals as goal
 
 -- Front(f), and b0 and b1, as they were read
@@ -20,8 +20,8 @@ front c =
     let r = front-told layout1 a.front.0 0 a.image.now c.sound_front_at.ensures c.in-Members.is in
     (r.0, r.1)
 
-both : (c : In-Sound) → let a = c.args in let g = c.a-1.given.0 in
-    Reads layout1 true a.size a.front.0 0 a.image.now g.0 × Reads layout1 false a.size a.front.0 0 a.image.now g.1.0
+both : (c : In-Sound) → let a = c.args in let g = c.in-Sound in
+    Reads layout1 true a.size a.front.0 0 a.image.now g.a × Reads layout1 false a.size a.front.0 0 a.image.now g.b
 both c =
     let a = c.args in
     both-sound layout1 a.size a.front.0 0 a.image.now c.read_backyard.ensures c.in-Sound.is
@@ -42,10 +42,10 @@ returns-then-n-lt-FRONT_SLOTS c =
     (m.0, m.1 ∙ r.1)
 
 pub count_bag-first-requires : goal.count_bag-first-requires
-count_bag-first-requires c = let r = (both c).0 in bag-read r.leads r.read
+count_bag-first-requires c = let r = (both (goal.at.count_bag-first-requires c).In-Sound).0 in bag-read r.leads r.read
 
 pub count_bag-second-requires : goal.count_bag-second-requires
-count_bag-second-requires c = let r = (both (goal.at.count_bag-second-requires c).After-count_bag-first).1 in bag-read r.leads r.read
+count_bag-second-requires c = let r = (both (goal.at.count_bag-second-requires c).In-Sound).1 in bag-read r.leads r.read
 
 pub overflow_add-near : goal.overflow_add-near
 overflow_add-near c =

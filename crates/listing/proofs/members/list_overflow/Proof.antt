@@ -66,7 +66,7 @@ list_bag-m-requires c κs =
     let l = listed1 w in
     let s = start (first l) in (
       bag-read w.second_of.ensures (chosen-read s.requires.0.both false),
-      omega (arith, rest-length l.list_bag-n.result l.list_bag-n.last.1.1.1.0, same l, few l, s.requires.1),
+      omega (arith, rest-length l.list_bag-n.result l.list_bag-n.new.out, same l, few l, s.requires.1),
     )
 
 overflow_add-n : tie.Need-overflow_add-n

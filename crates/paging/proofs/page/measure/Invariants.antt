@@ -9,6 +9,3 @@ invariant-loop-f l = Measured layout1 l.size l.start l.end l.room l.image l.f l.
 
 abbrev pub decreases-loop-f : goal.decreases-loop-f
 decreases-loop-f l = l.end - l.f
-
-abbrev pub start : tie.At-loop invariant-loop decreases-loop → tie.Start invariant-loop decreases-loop
-start c = c.before.before

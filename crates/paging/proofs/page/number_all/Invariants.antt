@@ -3,7 +3,7 @@ use mathlib.Core.Path.{◌≡◌}
 use Prim.Native.Nat.{◌-◌, ◌≤◌}
 use mathlib.Core.List.{◌++◌, map}
 use lib.ListN.{length, take, drop}
-use Rattle.crumbmap.specs.Layouts.{layout1, keys}
+use Rattle.crumbmap.specs.Layouts.{layout1}
 use Rattle.crumbmap.specs.Fingerprints.{fingerprint}
 use Rattle.paging.proofs.page.number_all.Given as goal
 

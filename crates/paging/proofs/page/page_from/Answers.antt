@@ -1,11 +1,10 @@
 -- `paging::page::page_from` meets its contract. Each ending of a page, by what measuring said.
-use mathlib.Core.Logic.{⊎_elim}
 use native.Mathlib.Omega.{arith}
 use lib.ListN.{length}
 use Rattle.crumbmap.specs.Layouts.{layout1, fronts}
 use Rattle.paging.specs.Steps.PageRuns.{Ran}
 use Rattle.paging.proofs.PageSteps.{end-next, end-unsound, moves, page-unsound, page-no-room, page-written}
-use Rattle.paging.proofs.page.page_from.Goals.{In-Next}
+use Rattle.paging.proofs.page.page_from.Goals.{In-Next, then-next-start+else-start-end, else-next-start}
 use Rattle.paging.proofs.page.page_from.Goals as goal
 
 -- the run that was measured
@@ -40,6 +39,6 @@ pub returns-after-next-start : goal.returns-after-next-start
 unfolding fronts
 returns-after-next-start c =
     let on = moves c.in-Next.next c.args.start (fronts c.args.size)
-    (λ e d. ⊎_elim (λ w. omega arith) (λ w. omega arith) c.if-next-start.came) in
+    (λ e d. elim c.if-next-start.branch [ then-next-start+else-start-end w ↦ omega arith | else-next-start w ↦ omega arith ]) in
     page-written layout1 c.args.size c.args.start c.args.image.now c.args.out.now c.requires.1 (ran (goal.at.returns-after-next-start c).In-Next) on
     c.write_run.ensures

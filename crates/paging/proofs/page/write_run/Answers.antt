@@ -14,7 +14,7 @@ use Rattle.paging.proofs.page.write_run.Goals as goal
 written : (c : After-slice_known-in-loop-f-1) →
     let a = c.args in let l = c.loop-f in let w = c.write_bucket-n in
     Written layout1 a.size a.start a.next a.image.now a.out.now
-    (put_mid l.n (length l.out - l.n) l.out w.last.1.1.1.0) (l.f + 1) (l.n + w.result)
+    (put_mid l.n (length l.out - l.n) l.out w.new.out) (l.f + 1) (l.n + w.result)
 written c =
     bucket-written c.requires c.loop-f.invariant (omega arith) c.write_bucket-n.ensures
 

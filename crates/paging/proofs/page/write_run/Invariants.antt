@@ -9,6 +9,3 @@ invariant-loop-f l = Written layout1 l.size l.start l.next l.image l.initial.out
 
 abbrev pub decreases-loop-f : goal.decreases-loop-f
 decreases-loop-f l = l.next - l.f
-
-abbrev pub start : tie.At-loop invariant-loop decreases-loop → tie.Start invariant-loop decreases-loop
-start c = c.before.before.before

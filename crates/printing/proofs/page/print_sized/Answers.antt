@@ -20,5 +20,5 @@ print_from-requires c = (c.requires, omega (arith, c.requires.some))
 pub returns : goal.returns
 unfolding occupancy_of fronts
 returns c =
-    rw (whole-sized c.requires, lt-leb (fronts c.args.size) (page_lines * c.args.page) (omega (arith, c.if-last-page.left, c.requires.some)))
+    rw (whole-sized c.requires, lt-leb (fronts c.args.size) (page_lines * c.args.page) (omega (arith, c.if-last-page.false, c.requires.some)))
     c.print_from.ensures

@@ -32,7 +32,7 @@ merge_into-requires c =
 
 pub slice_bounds-fill_front_at-end : goal.slice_bounds-fill_front_at-end
 slice_bounds-fill_front_at-end c =
-    sym (length-take-le _ _ (omega (arith, c.merge_into.kept, c.settle-split.ensures.room)))
+    sym (length-take-le _ _ (omega (arith, c.merge_into.auto.out, c.settle-split.ensures.room)))
 
 pub fill_front_at-requires : goal.fill_front_at-requires
 fill_front_at-requires c =

@@ -2,11 +2,10 @@
 -- on. The measure is what is left of them.
 use mathlib.Core.Path.{◌≡◌, refl, sym, ◌∙◌}
 use Prim.Native.Nat.{◌+◌}
-use mathlib.Core.List.{◌∷◌}
+use mathlib.Core.List.{[], ◌∷◌}
 use native.Mathlib.Omega.{arith}
 use lib.ListN.{length, drop, get_or}
 use lib.Seq.{drop-length}
-use borrow.Author.Tests.{not-true, not-false}
 use Rattle.multiset.proofs.MultisetLaws.{below_at}
 use Rattle.crumbmap.specs.Layouts.{layout1, keys as allKeys}
 use Rattle.machine.specs.Results.{and_then}
@@ -38,7 +37,7 @@ push-requires c =
 pub returns-then-not-push : goal.returns-then-not-push
 returns-then-not-push c =
     let e = c.push.ensures in
-    (sym (next (goal.at.returns-then-not-push c).After-push ∙ then-full c.push.result c.push.new.image _ e.0 (not-true _ c.if-not-push.true)), e.1)
+    (sym (next (goal.at.returns-then-not-push c).After-push ∙ then-full c.push.result c.push.new.image _ e.0 c.if-not-push.true), e.1)
 
 pub loop-i-preserved : goal.loop-i-preserved
 loop-i-preserved c =
@@ -46,7 +45,7 @@ loop-i-preserved c =
       omega arith,
       c.push.auto.image ∙ c.loop-i.invariant.1,
       e.1,
-      next (goal.at.loop-i-preserved c).After-push ∙ then-on c.push.result c.push.new.image _ e.0 (not-false _ c.if-not-push.false),
+      next (goal.at.loop-i-preserved c).After-push ∙ then-on c.push.result c.push.new.image _ e.0 c.if-not-push.false,
     )
 
 -- all keys are behind

@@ -91,7 +91,7 @@ returns-then-not-member_in_turn c =
     let b = lent (counted l) in
     let a = (start b).args in
     members-stop layout1 a.size a.bucket.0 a.image.now (back_list layout1 b.back_bucket-mine.result.now) l.loop-at.at.slot l.loop-at.invariant.1
-    (used m.before.before) (told m) c.if-not-member_in_turn.true
+    (used m.before.before) (told m) (rw c.if-not-member_in_turn.true)
     ∙ ap (λ (bytes : List ℕ). all_in_turn layout1 a.size a.bucket.0 a.image.now (back_list layout1 bytes)) b.back_bucket-mine.ensures.0
 
 loop-at-smaller : tie.Need-loop-at-smaller invariant-loop-at decreases-loop-at
@@ -107,7 +107,7 @@ loop-at-preserved c =
     let e = p.next_back-passed.ensures in (
       e.2,
       rw e.1 (members-on layout1 a.size a.bucket.0 a.image.now (back_list layout1 b.back_bucket-mine.result.now) l.loop-at.at.slot l.loop-at.invariant.1
-          (used p.before) (told m) c.before.if-not-member_in_turn.false),
+          (used p.before) (told m) (rw c.before.if-not-member_in_turn.false)),
     )
 
 returns : tie.Need-returns invariant-loop-at decreases-loop-at

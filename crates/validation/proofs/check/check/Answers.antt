@@ -4,17 +4,17 @@ use Rattle.tails.specs.Steps.Openings.{Opens}
 use Rattle.tails.proofs.OpenLaws.{said-open, said-shut, opened-at}
 use Rattle.tails.proofs.PartLaws.{body-part}
 use Rattle.tails.proofs.CallLaws.{body-whole, body-long}
-use Rattle.validation.proofs.check.check.Goals.{In-At-1, In-At-2}
+use Rattle.validation.proofs.check.check.Goals.{In-At}
 use Rattle.validation.proofs.check.check.Goals as goal
 
-opens : (c : In-At-2) → Opens c.in-At.opened c.args.image.now
+opens : (c : In-At) → Opens c.in-At.opened c.args.image.now
 opens c = said-open c.args.image.now c.open_image.ensures c.in-At.is
 
 pub slice_bounds-check_total-end : goal.slice_bounds-check_total-end
-slice_bounds-check_total-end c = body-long (opens (goal.at.slice_bounds-check_total-end c).In-At-1)
+slice_bounds-check_total-end c = body-long (opens (goal.at.slice_bounds-check_total-end c).In-At)
 
 pub check_total-requires : goal.check_total-requires
-check_total-requires c = body-whole (opens (goal.at.check_total-requires c).In-At-1)
+check_total-requires c = body-whole (opens (goal.at.check_total-requires c).In-At)
 
 pub returns-in-Refused : goal.returns-in-Refused
 unfolding check_of
@@ -25,4 +25,4 @@ pub returns-in-At : goal.returns-in-At
 unfolding check_of checked_by
 returns-in-At c =
     let img = c.args.image.now in
-    rw (opened-at (opens (goal.at.returns-in-At c).In-At-1), ← body-part img (opens (goal.at.returns-in-At c).In-At-1).end) c.check_total.ensures
+    rw (opened-at (opens (goal.at.returns-in-At c).In-At), ← body-part img (opens (goal.at.returns-in-At c).In-At).end) c.check_total.ensures

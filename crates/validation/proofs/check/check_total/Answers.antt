@@ -7,11 +7,11 @@ use Rattle.machine.specs.Checks.{check_sized}
 use Rattle.form.specs.Tails.{members}
 use Rattle.form.specs.Calls.{checked_by}
 use Rattle.validation.proofs.CheckSteps.{check-refused, check-counted}
-use Rattle.validation.proofs.check.check_total.Goals.{In-Members-2}
+use Rattle.validation.proofs.check.check_total.Goals.{In-Members}
 use Rattle.validation.proofs.check.check_total.Goals as goal
 
 -- the body passed, and so many members were counted
-passed : (c : In-Members-2) → let a = c.args in
+passed : (c : In-Members) → let a = c.args in
     (check_sized layout1 a.size a.image.now ≡ accepted tt) × (members layout1 a.size a.image.now ≡ c.in-Members.members)
 passed c =
     let a = c.args in
@@ -26,11 +26,11 @@ returns-in-Refused c =
 pub returns-then-total-members : goal.returns-then-total-members
 unfolding checked_by
 returns-then-total-members c =
-    let p = passed (goal.at.returns-then-total-members c).In-Members-2 in
+    let p = passed (goal.at.returns-then-total-members c).In-Members in
     rw (p.0, p.1, eq-eqb c.args.total c.in-Members.members c.if-total-members.true)
 
 pub returns-else-total-members : goal.returns-else-total-members
 unfolding checked_by
 returns-else-total-members c =
-    let p = passed (goal.at.returns-else-total-members c).In-Members-2 in
+    let p = passed (goal.at.returns-else-total-members c).In-Members in
     rw (p.0, p.1, ne_eqb c.args.total c.in-Members.members c.if-total-members.false)

@@ -10,7 +10,7 @@ use Rattle.machine.specs.Images.{back_at, in_back}
 use Rattle.image.specs.Steps.ImageReads.{BackIn, BackRead}
 use Rattle.image.proofs.ImageReadLaws.{back_in, back-told, back-unsound}
 use Rattle.validation.proofs.CheckSteps.{counts-none, counts-on, back_on, back-stop, back_end}
-use Rattle.validation.proofs.check.count_backs.Goals.{In-Members-2, In-loop-j}
+use Rattle.validation.proofs.check.count_backs.Goals.{In-Members, In-loop-j}
 use Rattle.validation.proofs.check.count_backs.Goals as goal
 
 -- j is the number of a backyard bucket, which lies in the image
@@ -22,7 +22,7 @@ within : (c : In-loop-j) → BackIn c.args.size c.loop-j.j c.args.image.now
 within c = back_in c.requires (inside c)
 
 -- what was read of a sound one
-told : (c : In-Members-2) →
+told : (c : In-Members) →
     let a = c.args in
     let j = c.loop-j.j in
     BackRead layout1 a.size j a.image.now × (length (in_back layout1 a.size j a.image.now) ≡ c.in-Members.n)
@@ -52,7 +52,7 @@ returns-in_default c =
 
 pub overflow_add-members : goal.overflow_add-members
 overflow_add-members c =
-    omega (arith, c.loop-j.invariant.2.few, (told (goal.at.overflow_add-members c).In-Members-2).1, (told (goal.at.overflow_add-members c).In-Members-2).0.list.room, c.requires.small)
+    omega (arith, c.loop-j.invariant.2.few, (told (goal.at.overflow_add-members c).In-Members).1, (told (goal.at.overflow_add-members c).In-Members).0.list.room, c.requires.small)
 
 pub overflow_add-j : goal.overflow_add-j
 overflow_add-j c = omega (arith, c.requires.small)
@@ -61,7 +61,7 @@ pub loop-j-preserved : goal.loop-j-preserved
 loop-j-preserved c =
     let a = c.args in
     let l = c.loop-j in
-    let t = told (goal.at.loop-j-preserved c).In-Members-2 in (
+    let t = told (goal.at.loop-j-preserved c).In-Members in (
       omega arith,
       back_on layout1 a.size (backyards a.size) l.j a.image.now l.invariant.1 (inside (goal.at.loop-j-preserved c).In-loop-j) t.0.accepts,
       counts-on (λ (e : ℕ). back_at layout1 a.size e a.image.now) 22 l.invariant.2 t.0.accepts t.1 t.0.list.room,

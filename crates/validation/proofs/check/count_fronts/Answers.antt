@@ -10,7 +10,7 @@ use Rattle.machine.specs.Images.{front_at, in_front}
 use Rattle.image.specs.Steps.ImageReads.{FrontRead}
 use Rattle.image.proofs.ImageReadLaws.{front-in, front-told, front-unsound}
 use Rattle.validation.proofs.CheckSteps.{counts-none, counts-on, front-on, front-stop, front-end}
-use Rattle.validation.proofs.check.count_fronts.Goals.{In-Members-2, In-loop-f}
+use Rattle.validation.proofs.check.count_fronts.Goals.{In-Members, In-loop-f}
 use Rattle.validation.proofs.check.count_fronts.Goals as goal
 
 -- f is the number of a front bucket
@@ -19,7 +19,7 @@ unfolding fronts
 inside c = omega arith
 
 -- what was read of a sound one
-told : (c : In-Members-2) →
+told : (c : In-Members) →
     let img = c.args.image.now in
     let f = c.loop-f.f in
     FrontRead layout1 f img × (length (in_front layout1 f img) ≡ c.in-Members.n)
@@ -41,7 +41,7 @@ returns-in_default c =
     (front-unsound layout1 l.f 0 a.image.now c.sound_front_at.ensures c.in_default.is)
 
 pub overflow_sub-free : goal.overflow_sub-free
-overflow_sub-free c = let t = told (goal.at.overflow_sub-free c).In-Members-2 in omega (arith, t.1, t.0.list.room)
+overflow_sub-free c = let t = told (goal.at.overflow_sub-free c).In-Members in omega (arith, t.1, t.0.list.room)
 
 pub overflow_add-free : goal.overflow_add-free
 overflow_add-free c = omega (arith, c.loop-f.invariant.1, inside (goal.at.overflow_add-free c).In-loop-f, c.requires.small)
@@ -53,7 +53,7 @@ pub loop-f-preserved : goal.loop-f-preserved
 loop-f-preserved c =
     let a = c.args in
     let l = c.loop-f in
-    let t = told (goal.at.loop-f-preserved c).In-Members-2 in
+    let t = told (goal.at.loop-f-preserved c).In-Members in
     let n : (l.f + 1) * 28 - (l.free + (28 - c.in-Members.n)) ≡ l.f * 28 - l.free + c.in-Members.n =
     omega (arith, l.invariant.1, t.1, t.0.list.room) in (
       omega arith,

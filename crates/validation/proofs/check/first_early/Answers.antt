@@ -28,7 +28,7 @@ returns-then-not-bucket_in_turn c =
     rw (
       c.table_of.ensures,
       early-stop layout1 c.args.size (backyards c.args.size) l.j c.args.image.now l.invariant.1 (inside (goal.at.returns-then-not-bucket_in_turn c).In-loop-j) (c.requires.back l.j (inside (goal.at.returns-then-not-bucket_in_turn c).In-loop-j))
-          c.bucket_in_turn.ensures c.if-not-bucket_in_turn.true,
+          c.bucket_in_turn.ensures (rw c.if-not-bucket_in_turn.true),
     )
 
 pub overflow_add-j : goal.overflow_add-j
@@ -39,7 +39,7 @@ loop-j-preserved c =
     let l = c.loop-j in (
       omega arith,
       early-on layout1 c.args.size (backyards c.args.size) l.j c.args.image.now l.invariant.1 (inside (goal.at.loop-j-preserved c).In-loop-j) (c.requires.back l.j (inside (goal.at.loop-j-preserved c).In-loop-j))
-          c.bucket_in_turn.ensures c.if-not-bucket_in_turn.false,
+          c.bucket_in_turn.ensures (rw c.if-not-bucket_in_turn.false),
     )
 
 pub returns : goal.returns
