@@ -1,4 +1,4 @@
-// The calls for C. Each gives one number, its answer packed: number × 2^56 + value, number 0 when accepted.
+// The calls as C has them, which the crate `capi_c` exports. Each gives one number, its answer packed: number × 2^56 + value, number 0 when accepted.
 
 #![tactic(auto)]
 
@@ -21,8 +21,7 @@ use breadcrumb::{
 use packing::pack::{asked, counted, done, packed, paged, rowed, tailed};
 
 // The image becomes fresh.
-#[unsafe(no_mangle)]
-pub extern "C" fn bcf_fresh(image: &mut [u8]) -> u64
+pub fn bcf_fresh(image: &mut [u8]) -> u64
     ensures value { result ≡ P.packed P.nothing (fresh_of known 1 image.old) }
     ensures image_after { image.new ≡ written (fresh_of known 1 image.old) image.old }
 {
@@ -30,16 +29,14 @@ pub extern "C" fn bcf_fresh(image: &mut [u8]) -> u64
 }
 
 // Whether the image is sound, each backyard member in its turn and the total that of the members.
-#[unsafe(no_mangle)]
-pub extern "C" fn bcf_check(image: &[u8]) -> u64
+pub fn bcf_check(image: &[u8]) -> u64
     ensures { result ≡ P.packed P.nothing (check_of known image.now) }
 {
     packed(done(check(image)))
 }
 
 // The total and the change count, into the first two entries of `out`.
-#[unsafe(no_mangle)]
-pub extern "C" fn bcf_tail(image: &[u8], out: &mut [u64]) -> u64
+pub fn bcf_tail(image: &[u8], out: &mut [u64]) -> u64
     ensures value { result ≡ P.packed P.nothing (tail_into known image.now (length out.old)) }
     ensures out_after { out.new ≡ printed (tail_into known image.now (length out.old)) out.old }
 {
@@ -47,8 +44,7 @@ pub extern "C" fn bcf_tail(image: &[u8], out: &mut [u64]) -> u64
 }
 
 // A hash is inserted.
-#[unsafe(no_mangle)]
-pub extern "C" fn bcf_insert(image: &mut [u8], hash: u64) -> u64
+pub fn bcf_insert(image: &mut [u8], hash: u64) -> u64
     ensures value { result ≡ P.packed answer_value (insert_of known image.old hash) }
     ensures image_after { image.new ≡ image_of (insert_of known image.old hash) image.old }
 {
@@ -56,8 +52,7 @@ pub extern "C" fn bcf_insert(image: &mut [u8], hash: u64) -> u64
 }
 
 // A hash is deleted.
-#[unsafe(no_mangle)]
-pub extern "C" fn bcf_delete(image: &mut [u8], hash: u64) -> u64
+pub fn bcf_delete(image: &mut [u8], hash: u64) -> u64
     ensures value { result ≡ P.packed answer_value (delete_of known image.old hash) }
     ensures image_after { image.new ≡ image_of (delete_of known image.old hash) image.old }
 {
@@ -65,16 +60,14 @@ pub extern "C" fn bcf_delete(image: &mut [u8], hash: u64) -> u64
 }
 
 // Where a hash stands and how often there, and how many buckets were read to tell.
-#[unsafe(no_mangle)]
-pub extern "C" fn bcf_ask(image: &[u8], hash: u64) -> u64
+pub fn bcf_ask(image: &[u8], hash: u64) -> u64
     ensures { result ≡ P.packed P.ask_word (ask_of known image.now hash) }
 {
     packed(asked(ask(image, hash)))
 }
 
 // A row of asks: each entry receives its answer, and the total of the reads that they share comes back.
-#[unsafe(no_mangle)]
-pub extern "C" fn bcf_row(image: &[u8], row: &mut [Entry]) -> u64
+pub fn bcf_row(image: &[u8], row: &mut [Entry]) -> u64
     ensures value { result ≡ P.packed P.row_word (row_of known image.now (hashes row.old)) }
     ensures row_after { row.new ≡ entries_of (row_of known image.now (hashes row.old)) row.old }
 {
@@ -82,16 +75,14 @@ pub extern "C" fn bcf_row(image: &[u8], row: &mut [Entry]) -> u64
 }
 
 // How many copies of a hash there are.
-#[unsafe(no_mangle)]
-pub extern "C" fn bcf_count(image: &[u8], hash: u64) -> u64
+pub fn bcf_count(image: &[u8], hash: u64) -> u64
     ensures { result ≡ P.packed P.count_word (count_of known image.now hash) }
 {
     packed(counted(count(image, hash)))
 }
 
 // The members of the longest run of whole buckets from `start` that fits into `out`, where the change count is the image's.
-#[unsafe(no_mangle)]
-pub extern "C" fn bcf_page(image: &[u8], start: u64, changes: u64, out: &mut [u64]) -> u64
+pub fn bcf_page(image: &[u8], start: u64, changes: u64, out: &mut [u64]) -> u64
     ensures value { result ≡ P.packed P.run_word (page_of known image.now start changes (length out.old)) }
     ensures out_after { out.new ≡ output_of (page_of known image.now start changes (length out.old)) out.old }
 {
@@ -99,8 +90,7 @@ pub extern "C" fn bcf_page(image: &[u8], start: u64, changes: u64, out: &mut [u6
 }
 
 // The occupancy of 24 front buckets as text.
-#[unsafe(no_mangle)]
-pub extern "C" fn bcf_occupancy(image: &[u8], page: u64, out: &mut [u8]) -> u64
+pub fn bcf_occupancy(image: &[u8], page: u64, out: &mut [u8]) -> u64
     ensures value { result ≡ P.packed P.nothing (occupancy_of known image.now page (length out.old)) }
     ensures out_after { out.new ≡ printed (occupancy_of known image.now page (length out.old)) out.old }
 {
@@ -108,8 +98,7 @@ pub extern "C" fn bcf_occupancy(image: &[u8], page: u64, out: &mut [u8]) -> u64
 }
 
 // Two images into a third.
-#[unsafe(no_mangle)]
-pub extern "C" fn bcf_merge<'a>(first: &'a [u8], second: &'a [u8], target: &mut [u8]) -> u64
+pub fn bcf_merge<'a>(first: &'a [u8], second: &'a [u8], target: &mut [u8]) -> u64
     ensures value { result ≡ P.packed P.nothing (merge_of known first.now second.now target.old) }
     ensures target_after { target.new
         ≡ target_of known first.now (merge_of known first.now second.now target.old) target.old }
@@ -118,8 +107,7 @@ pub extern "C" fn bcf_merge<'a>(first: &'a [u8], second: &'a [u8], target: &mut 
 }
 
 // An image of document 01's form into one with a tail.
-#[unsafe(no_mangle)]
-pub extern "C" fn bcf_attach(old: &[u8], target: &mut [u8]) -> u64
+pub fn bcf_attach(old: &[u8], target: &mut [u8]) -> u64
     ensures value { result ≡ P.packed P.nothing (attach_of known 1 old.now target.old) }
     ensures target_after { target.new ≡ written (attach_of known 1 old.now target.old) target.old }
 {
@@ -127,8 +115,7 @@ pub extern "C" fn bcf_attach(old: &[u8], target: &mut [u8]) -> u64
 }
 
 // An image without its tail into one of document 01's form.
-#[unsafe(no_mangle)]
-pub extern "C" fn bcf_detach(image: &[u8], target: &mut [u8]) -> u64
+pub fn bcf_detach(image: &[u8], target: &mut [u8]) -> u64
     ensures value { result ≡ P.packed P.nothing (detach_of known 1 image.now target.old) }
     ensures target_after { target.new ≡ written (detach_of known 1 image.now target.old) target.old }
 {

@@ -13,10 +13,10 @@ use Rattle.merging.proofs.merge.merge_fronts.Goals as goal
 
 -- both sources are known
 first : (c : After-slice_known-1) → Known layout1 c.args.size c.args.first.now
-first c = known fits1 (λ i. (c.shared_slice_known-2-1.given i).fits) c.requires.1.first
+first c = known fits1 (λ i. (c.type_inv.first i).fits) c.requires.1.first
 
 second : (c : After-slice_known-1) → Known layout1 c.args.size c.args.second.now
-second c = known fits1 (λ i. (c.shared_slice_known-3-1.given i).fits) c.requires.1.second
+second c = known fits1 (λ i. (c.type_inv.second i).fits) c.requires.1.second
 
 -- f is the number of a front bucket
 inside : (c : In-loop-f) → c.loop-f.f < fronts c.args.size
@@ -70,7 +70,7 @@ loop-f-preserved c =
     let at = goal.at.loop-f-preserved c in
     let m = c.merge_front in (
       fronts-on c.loop-f.invariant.0 (first at.After-slice_known-1) (second at.After-slice_known-1) (inside at.In-loop-f) m.result m.new.target m.ensures
-          fits1 c.if-not-merge_front.false m.auto.target (λ i. (c.slice_known-in-loop-f-1.given i).fits),
+          fits1 c.if-not-merge_front.false m.auto.target (λ i. (c.type_inv.target i).fits),
       scratch at.After-merge_front,
     )
 
