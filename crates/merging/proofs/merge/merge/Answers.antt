@@ -9,21 +9,21 @@ use Rattle.form.specs.Calls.{merge_of}
 use Rattle.image.specs.Steps.ImageReads.{Whole}
 use Rattle.image.proofs.ImageReadLaws.{size-some, size_none, whole-sized}
 use Rattle.tails.proofs.OpenLaws.{form-whole, form-none}
-use Rattle.merging.proofs.merge.merge.Goals.{In-Buckets-2, In-Buckets-form_size-2-2, In-Buckets-form_size-3}
+use Rattle.merging.proofs.merge.merge.Goals.{In-Buckets, In-Buckets-form_size-2, In-Buckets-form_size}
 use Rattle.merging.proofs.merge.merge.Goals as goal
 
 -- the sizes of the three
-first : (c : In-Buckets-2) → Whole c.in-Buckets.size (body c.args.first.now)
+first : (c : In-Buckets) → Whole c.in-Buckets.size (body c.args.first.now)
 first c =
     let img = c.args.first.now in
     form-whole img (size-some (size_of (length img - 64)) c.form_size.ensures c.in-Buckets.is)
 
-second : (c : In-Buckets-form_size-3) → Whole c.in-Buckets-form_size.other (body c.args.second.now)
+second : (c : In-Buckets-form_size) → Whole c.in-Buckets-form_size.other (body c.args.second.now)
 second c =
     let img = c.args.second.now in
     form-whole img (size-some (size_of (length img - 64)) c.form_size-2.ensures c.in-Buckets-form_size.is)
 
-target : (c : In-Buckets-form_size-2-2) → Whole c.in-Buckets-form_size-2.into (body c.args.target.now)
+target : (c : In-Buckets-form_size-2) → Whole c.in-Buckets-form_size-2.into (body c.args.target.now)
 target c =
     let img = c.args.target.now in
     form-whole img (size-some (size_of (length img - 64)) c.form_size-3.ensures c.in-Buckets-form_size-2.is)
@@ -38,7 +38,7 @@ pub returns-in_default-form_size : goal.returns-in_default-form_size
 unfolding merge_of
 returns-in_default-form_size c =
     let img = c.args.second.now in
-    rw (whole-sized (first (goal.at.returns-in_default-form_size c).In-Buckets-2), form-none img (size_none (size_of (length img - 64)) c.form_size-2.ensures c.in_default-form_size.is))
+    rw (whole-sized (first (goal.at.returns-in_default-form_size c).In-Buckets), form-none img (size_none (size_of (length img - 64)) c.form_size-2.ensures c.in_default-form_size.is))
     record { answer = refl; bytes = refl }
 
 pub returns-in_default-form_size-2 : goal.returns-in_default-form_size-2
@@ -46,8 +46,8 @@ unfolding merge_of
 returns-in_default-form_size-2 c =
     let img = c.args.target.now in
     rw (
-      whole-sized (first (goal.at.returns-in_default-form_size-2 c).In-Buckets-2),
-      whole-sized (second (goal.at.returns-in_default-form_size-2 c).In-Buckets-form_size-3),
+      whole-sized (first (goal.at.returns-in_default-form_size-2 c).In-Buckets),
+      whole-sized (second (goal.at.returns-in_default-form_size-2 c).In-Buckets-form_size),
       form-none img (size_none (size_of (length img - 64)) c.form_size-3.ensures c.in_default-form_size-2.is),
     ) record { answer = refl; bytes = refl }
 
@@ -55,9 +55,9 @@ pub returns-then-size-other : goal.returns-then-size-other
 unfolding merge_of
 returns-then-size-other c =
     rw (
-      whole-sized (first (goal.at.returns-then-size-other c).In-Buckets-2),
-      whole-sized (second (goal.at.returns-then-size-other c).In-Buckets-form_size-3),
-      whole-sized (target (goal.at.returns-then-size-other c).In-Buckets-form_size-2-2),
+      whole-sized (first (goal.at.returns-then-size-other c).In-Buckets),
+      whole-sized (second (goal.at.returns-then-size-other c).In-Buckets-form_size),
+      whole-sized (target (goal.at.returns-then-size-other c).In-Buckets-form_size-2),
       ne_eqb c.in-Buckets.size c.in-Buckets-form_size.other c.if-size-other.true,
     ) record { answer = refl; bytes = refl }
 
@@ -65,24 +65,24 @@ pub returns-then-size-into : goal.returns-then-size-into
 unfolding merge_of
 returns-then-size-into c =
     rw (
-      whole-sized (first (goal.at.returns-then-size-into c).In-Buckets-2),
-      whole-sized (second (goal.at.returns-then-size-into c).In-Buckets-form_size-3),
-      whole-sized (target (goal.at.returns-then-size-into c).In-Buckets-form_size-2-2),
+      whole-sized (first (goal.at.returns-then-size-into c).In-Buckets),
+      whole-sized (second (goal.at.returns-then-size-into c).In-Buckets-form_size),
+      whole-sized (target (goal.at.returns-then-size-into c).In-Buckets-form_size-2),
       eq-eqb c.in-Buckets.size c.in-Buckets-form_size.other c.if-size-other.false,
       ne_eqb c.in-Buckets.size c.in-Buckets-form_size-2.into c.if-size-into.true,
     ) record { answer = refl; bytes = refl }
 
 pub merge_sized-requires : goal.merge_sized-requires
 merge_sized-requires c =
-    (first (goal.at.merge_sized-requires c).In-Buckets-2, rw c.if-size-other.false (second (goal.at.merge_sized-requires c).In-Buckets-form_size-3), rw c.if-size-into.false (target (goal.at.merge_sized-requires c).In-Buckets-form_size-2-2))
+    (first (goal.at.merge_sized-requires c).In-Buckets, rw c.if-size-other.false (second (goal.at.merge_sized-requires c).In-Buckets-form_size), rw c.if-size-into.false (target (goal.at.merge_sized-requires c).In-Buckets-form_size-2))
 
 pub returns : goal.returns
 unfolding merge_of
 returns c =
     rw (
-      whole-sized (first (goal.at.returns c).In-Buckets-2),
-      whole-sized (second (goal.at.returns c).In-Buckets-form_size-3),
-      whole-sized (target (goal.at.returns c).In-Buckets-form_size-2-2),
+      whole-sized (first (goal.at.returns c).In-Buckets),
+      whole-sized (second (goal.at.returns c).In-Buckets-form_size),
+      whole-sized (target (goal.at.returns c).In-Buckets-form_size-2),
       eq-eqb c.in-Buckets.size c.in-Buckets-form_size.other c.if-size-other.false,
       eq-eqb c.in-Buckets.size c.in-Buckets-form_size-2.into c.if-size-into.false,
     ) c.merge_sized.ensures

@@ -32,13 +32,13 @@ pub start_tail-requires : goal.start_tail-requires
 start_tail-requires c =
     let old = c.args.target.now in
     let end = length old - 64 in
-    rw (end-lent end c.merge_bodies.last.1.1.1.0 (drop end old) (long (goal.at.start_tail-requires c).After-merge_bodies), rest_part old refl) (length_rest old (whole_long old c.requires.1))
+    rw (end-lent end c.merge_bodies.new.target (drop end old) (long (goal.at.start_tail-requires c).After-merge_bodies), rest_part old refl) (length_rest old (whole_long old c.requires.1))
 
 pub returns-then-merge_bodies : goal.returns-then-merge_bodies
 returns-then-merge_bodies c =
     let a = c.args in
     let old = a.target.now in
-    let now = c.merge_bodies.last.1.1.1.0 in
+    let now = c.merge_bodies.new.target in
     let end = length old - 64 in
     fill-accepted layout1 1 a.size a.total a.first.now a.second.now old c.merge_bodies.result now c.merge_bodies.ensures c.if-merge_bodies.true
     (end-written end now (drop end old) c.start_tail.new.b (long (goal.at.returns-then-merge_bodies c).After-merge_bodies) ∙ rw c.start_tail.ensures)
@@ -47,7 +47,7 @@ pub returns : goal.returns
 returns c =
     let a = c.args in
     let old = a.target.now in
-    let now = c.merge_bodies.last.1.1.1.0 in
+    let now = c.merge_bodies.new.target in
     let left = now ++ drop (length old - 64) old in
     fill-full layout1 1 a.size a.total a.first.now a.second.now old c.merge_bodies.result now c.merge_bodies.ensures c.if-merge_bodies.false
     (c.fresh.ensures.bytes ∙ fresh-whole known 1 refl left (still-whole old now c.requires.1 (long (goal.at.returns c).After-merge_bodies)))

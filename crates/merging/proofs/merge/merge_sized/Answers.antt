@@ -9,17 +9,17 @@ use Rattle.tails.specs.Steps.Openings.{header_of}
 use Rattle.tails.proofs.OpenLaws.{tail-bad, tail-good, whole_long}
 use Rattle.tails.proofs.PartLaws.{body-part}
 use Rattle.merging.proofs.MergeSteps.{same_end, told_of, merged-left}
-use Rattle.merging.proofs.merge.merge_sized.Goals.{After-tail_at-2, In-Good-2, In-Good-tail_at-2}
+use Rattle.merging.proofs.merge.merge_sized.Goals.{In-Good, In-Good-tail_at}
 use Rattle.merging.proofs.merge.merge_sized.Goals as goal
 
 -- what the tails tell
-mine : (c : In-Good-2) → let a = c.args in
+mine : (c : In-Good) → let a = c.args in
     headed known a.size a.first.now ≡ accepted (header_of a.size c.in-Good.mine.total c.in-Good.mine.changes)
 mine c =
     let a = c.args in
     tail-good a.size a.first.now c.tail_at.ensures c.in-Good.is
 
-theirs : (c : In-Good-tail_at-2) → let a = c.args in
+theirs : (c : In-Good-tail_at) → let a = c.args in
     headed known a.size a.second.now ≡ accepted (header_of a.size c.in-Good-tail_at.theirs.total c.in-Good-tail_at.theirs.changes)
 theirs c =
     let a = c.args in
@@ -35,7 +35,7 @@ pub returns-in_default-tail_at : goal.returns-in_default-tail_at
 unfolding merge_sized_of
 returns-in_default-tail_at c =
     let a = c.args in
-    rw (mine (goal.at.returns-in_default-tail_at c).In-Good-2, tail-bad a.size a.second.now c.tail_at-2.ensures c.in_default-tail_at.is) record { answer = refl; bytes = refl }
+    rw (mine (goal.at.returns-in_default-tail_at c).In-Good, tail-bad a.size a.second.now c.tail_at-2.ensures c.in_default-tail_at.is) record { answer = refl; bytes = refl }
 
 pub overflow_sub-end : goal.overflow_sub-end
 overflow_sub-end c = whole_long c.args.first.now c.requires.0
@@ -53,15 +53,15 @@ slice_bounds-merge_told-end-2 c =
 pub merge_told-requires : goal.merge_told-requires
 merge_told-requires c =
     let a = c.args in (
-      told_of a.size a.first.now (mine (goal.at.merge_told-requires c).In-Good-2) refl c.requires.0,
-      told_of a.size a.second.now (theirs (goal.at.merge_told-requires c).After-tail_at-2) (same_end a.first.now a.second.now c.requires.0 c.requires.1) c.requires.1,
+      told_of a.size a.first.now (mine (goal.at.merge_told-requires c).In-Good) refl c.requires.0,
+      told_of a.size a.second.now (theirs (goal.at.merge_told-requires c).In-Good-tail_at) (same_end a.first.now a.second.now c.requires.0 c.requires.1) c.requires.1,
       c.requires.2,
     )
 
 pub returns : goal.returns
 returns c =
     let a = c.args in
-    merged-left a.size a.first.now a.second.now a.target.now (mine (goal.at.returns c).In-Good-2) (theirs (goal.at.returns c).After-tail_at-2) c.requires.2
+    merged-left a.size a.first.now a.second.now a.target.now (mine (goal.at.returns c).In-Good) (theirs (goal.at.returns c).In-Good-tail_at) c.requires.2
     (rw (
       body-part a.first.now refl,
       body-part a.second.now (same_end a.first.now a.second.now c.requires.0 c.requires.1),
