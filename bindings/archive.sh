@@ -1,6 +1,6 @@
 #!/usr/bin/env bash
-# The archive that programs link, target/staticlib/libcapi.a: proved, compiled, and every function made to start on a cache line, wherever the
-# linker puts it.
+# The archive that programs link, target/staticlib/libcapi.a, from the crate `capi_c`: proved, compiled, and every function made to
+# start on a cache line, wherever the linker puts it.
 #     archive.sh            builds it
 #     archive.sh FROM TO    does the last step alone, on an archive that another checkout built
 set -euo pipefail
@@ -18,5 +18,6 @@ if [ $# -eq 2 ]; then
   exit
 fi
 cd "$(dirname "$0")/.."
-rt staticlib capi
-align target/staticlib/libcapi.a target/staticlib/libcapi.a
+(cd crates/capi_c && rt lib)
+mkdir -p target/staticlib
+align crates/capi_c/out/libcapi_c.a target/staticlib/libcapi.a

@@ -3,7 +3,7 @@ use Rattle.std.proofs.Common.{◌^◌, arith}
 use Rattle.multiset.specs.Multisets.{Below}
 use Rattle.answers.specs.Rows.{hashes}
 use Rattle.trio.specs.Rows.{listed}
-use Rattle.trio.proofs.sweep.Goals.{After-turn-arg-3-1, Start}
+use Rattle.trio.proofs.sweep.Goals.{Start}
 use Rattle.trio.proofs.sweep.Goals as goal
 
 pub turn-a-requires : goal.turn-a-requires
@@ -29,5 +29,5 @@ unfolding listed
 returns c = (
   rw (c.turn-c.ensures, c.turn-b.ensures, c.turn-a.ensures),
   rw (c.turn-c.ensures, c.turn-b.ensures, c.turn-a.ensures),
-  small (goal.at.returns c).After-turn-arg-3-1,
+  small (goal.at.returns c).Start,
 )

@@ -13,7 +13,7 @@ use Rattle.text.specs.Lines.{told}
 use Rattle.frame.specs.Frames.{list_text, list_of, room}
 use Rattle.text.proofs.PrintLaws.{length-line}
 use Rattle.frame.proofs.PerformLaws.{take-le, list-room, list-text, list-refused}
-use Rattle.frame.proofs.perform.list_by.Goals.{In-Accepted, In-Accepted-2}
+use Rattle.frame.proofs.perform.list_by.Goals.{In-Accepted}
 use Rattle.frame.proofs.perform.list_by.Goals as goal
 
 abbrev asked : In-Accepted → Result Run
@@ -33,23 +33,27 @@ few c =
     (list-room (asked c) _ _ c.args.entries.now _ (listed c) (written c) c.page_whole.auto.entries)
 
 pub slice_bounds-put_entries-end : goal.slice_bounds-put_entries-end
-slice_bounds-put_entries-end c = omega (arith, few (goal.at.slice_bounds-put_entries-end c).In-Accepted-2)
+slice_bounds-put_entries-end c = omega (arith, few (goal.at.slice_bounds-put_entries-end c).In-Accepted)
 
 pub put_entries-requires : goal.put_entries-requires
 put_entries-requires c =
-    omega (arith, few (goal.at.put_entries-requires c).In-Accepted-2, take-le (c.in-Accepted.n - 0) c.page_whole.new.entries)
+    omega (arith, few (goal.at.put_entries-requires c).In-Accepted, take-le (c.in-Accepted.n - 0) c.page_whole.new.entries)
 
 pub overflow_mul-result : goal.overflow_mul-result
-overflow_mul-result c = omega (arith, few (goal.at.overflow_mul-result c).In-Accepted-2)
+overflow_mul-result c = omega (arith, few (goal.at.overflow_mul-result c).In-Accepted)
 
 pub overflow_add-result : goal.overflow_add-result
-overflow_add-result c = omega (arith, few (goal.at.overflow_add-result c).In-Accepted-2)
+overflow_add-result c = omega (arith, few (goal.at.overflow_add-result c).In-Accepted)
 
 pub returns-in-Accepted : goal.returns-in-Accepted
 returns-in-Accepted c =
     let a = c.args in
-    list-text (asked (goal.at.returns-in-Accepted c).In-Accepted-2) c.in-Accepted.n c.in-Accepted.field-1 a.entries.now _ a.out.now _ _ (listed (goal.at.returns-in-Accepted c).In-Accepted-2) (written (goal.at.returns-in-Accepted c).In-Accepted-2)
-    c.put_line.ensures.1 c.put_entries.ensures
+    let p = (goal.at.returns-in-Accepted c).In-Accepted in
+    let t =
+    list-text (asked p) c.in-Accepted.n c.in-Accepted.field-1 a.entries.now _ a.out.now _ _ (listed p) (written p) c.put_line.ensures.1
+    c.put_entries.ensures
+    in
+    record { value = t.0; out_after = t.1 }
 
 pub returns-in-Refused : goal.returns-in-Refused
 returns-in-Refused c =
@@ -59,4 +63,4 @@ returns-in-Refused c =
     let t : told 5 c.refused.result ≡ list_text (list_of a.image.now) =
     rw c.refused.ensures (list-refused (list_of a.image.now) c.in-Refused.why e)
     in
-    (p.0 ∙ sym (length-line 5 _ _) ∙ ap length t, p.1 ∙ ap (λ (l : List ℕ). over 0 l a.out.now) t)
+    record { value = p.0 ∙ sym (length-line 5 _ _) ∙ ap length t; out_after = p.1 ∙ ap (λ (l : List ℕ). over 0 l a.out.now) t }

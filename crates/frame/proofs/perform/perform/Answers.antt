@@ -52,7 +52,7 @@ pub returns-in-List : goal.returns-in-List
 unfolding text_of image_after
 returns-in-List c =
     let l = c.list.ensures in
-    rw c.in-List.is (record { count = l.0; text = l.1; image = refl })
+    rw c.in-List.is (record { count = l.value; text = l.out_after; image = refl })
 
 pub returns-in-Malformed : goal.returns-in-Malformed
 unfolding text_of image_after

@@ -27,7 +27,7 @@ loop-i-preserved c =
     let k = c.keep-n in
     let ne : get_or a.bytes.now l.i 0 ≡ 10 → ⊥ = λ e. omega arith in (
       omega arith,
-      k.auto.0 ∙ l.invariant.1,
+      k.auto.line ∙ l.invariant.1,
       k.ensures.0,
       reads_more (take a.held a.line.now) a.bytes.now (take l.n l.line) _ l.i (omega arith) ne k.ensures.1 l.invariant.3,
     )

@@ -1,6 +1,7 @@
 -- What holds at each turn of the loop, and what gets less.
 use mathlib.Core.Path.{◌≡◌}
 use Prim.Native.Nat.{◌≤◌, ◌-◌}
+use mathlib.Core.List.{[]}
 use lib.ListN.{length, take}
 use Rattle.lines.specs.Steps.Turns.{Reads}
 use Rattle.lines.proofs.hold.hold.Given as goal

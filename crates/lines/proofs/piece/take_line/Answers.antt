@@ -14,7 +14,7 @@ returns-then-used-bytes c =
 pub slice_bounds-answer-end-2 : goal.slice_bounds-answer-end-2
 slice_bounds-answer-end-2 c =
     let h = c.hold-h in
-    sym (length-take-le h.result.held h.new.1.0 (omega (arith, h.ensures.few, h.auto)))
+    sym (length-take-le h.result.held h.new.line (omega (arith, h.ensures.few, h.auto.line)))
 
 pub returns : goal.returns
 returns c =
