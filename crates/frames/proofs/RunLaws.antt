@@ -5,7 +5,6 @@ use mathlib.Core.List.{List, [], ◌∷◌, ◌++◌}
 use native.Mathlib.Omega.{arith}
 use lib.ListN.{length, take, drop}
 use lib.Seq.{length-take-le, length-slice}
-use Rattle.std.specs.Prelude.{Result, Ok, Err, OnOk}
 use Rattle.lines.specs.Inputs.{start_image, image_of_input}
 use Rattle.lines.specs.Steps.Turns.{Steps, Taken, none, step, start, piece, joined}
 use Rattle.lines.specs.declared.Step.{Step}
@@ -38,8 +37,3 @@ came-more {img} {held} {img'} {held'} buffer n h c t =
 -- the image that the program leaves is the one that its input leaves
 pub ran-whole : {img : List ℕ} → (r : Ran img) → img ≡ image_of_input (joined r.came.pieces)
 ran-whole r = (whole r.came.run r.ends).1
-
--- what holds, where the last call's result is returned as it is
-pub on-ok : {T E P : Type 0} (r : Result T E) → P → OnOk r P
-on-ok (Ok _) p = p
-on-ok (Err _) p = tt

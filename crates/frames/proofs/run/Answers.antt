@@ -1,27 +1,27 @@
 -- `run`: pieces of the input have led to the image and the bytes held; it ends, since the measure is the turns that are left.
 use native.Mathlib.Omega.{arith}
 use mathlib.Core.Path.{sym, ◌∙◌}
-use Rattle.frames.proofs.RunLaws.{came-none, came-more, on-ok}
+use Rattle.frames.proofs.RunLaws.{came-none, came-more}
 use Rattle.frames.proofs.run.Goals as goal
 
 pub loop-turns-init : goal.loop-turns-init
 loop-turns-init c =
     (c.requires.0.image, c.requires.0.longest, c.requires.0.text, omega arith, came-none c.args.image.now c.args.line.now c.requires.1)
 
-pub take_in-requires : goal.take_in-requires
-take_in-requires c =
+pub take_in-held-requires : goal.take_in-held-requires
+take_in-held-requires c =
     let l = c.loop-turns.invariant in
-    (record { image = l.0; longest = l.1; few = l.3; text = l.2 }, c.in_ok-n.ensures.bound.0)
+    (record { image = l.0; longest = l.1; few = l.3; text = l.2 }, c.read_some-n.ensures)
 
 pub loop-turns-preserved : goal.loop-turns-preserved
 loop-turns-preserved c =
     let l = c.loop-turns.invariant in
-    let k = c.take_in.auto in (
+    let k = c.take_in-held.auto in (
       k.image ∙ l.0,
       k.line ∙ l.1,
       k.out ∙ l.2,
-      c.in_ok-held.ensures.0,
-      came-more _ _ c.in_ok-n.ensures.bound.0 l.4 c.in_ok-held.ensures.1,
+      c.take_in-held.ensures.0,
+      came-more _ _ c.read_some-n.ensures l.4 c.take_in-held.ensures.1,
     )
 
 pub finish-n-requires : goal.finish-n-requires
@@ -44,7 +44,7 @@ shape_of-out c =
 
 pub returns : goal.returns
 returns c =
-    on-ok c.print.result (record { img = _; held = _; came = c.loop-turns.invariant.4; n = _; out = _; ends = c.finish-n.ensures })
+    record { img = _; held = _; came = c.loop-turns.invariant.4; n = _; out = _; ends = c.finish-n.ensures }
 
 pub overflow_sub-turns : goal.overflow_sub-turns
 overflow_sub-turns c = omega arith
