@@ -1,5 +1,4 @@
-// A row of three asks. `bcf_row` is lent a slice of structs, and the walk of a call that lends one is by hand: so what it does with its entries is done
-// here with entries by value, in the same order.
+// A row of three asks. What `bcf_row` does with the entries that it is lent is done here with entries by value, in the same order.
 
 #![tactic(auto)]
 
