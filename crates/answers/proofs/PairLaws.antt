@@ -3,11 +3,11 @@
 use mathlib.Core.Path.{◌≡◌, refl, ◌∙◌}
 use Prim.Native.Nat.{ℕ, ◌<◌}
 use native.Mathlib.Omega.{arith}
+use Rattle.std.specs.Prelude as S
 use Rattle.machine.specs.Results.{Result, accepted, refused, and_then, number}
 use Rattle.machine.specs.Machine.{Change}
 use Rattle.answers.specs.Answers.{refusal, change_of, answer_of}
 use Rattle.answers.specs.declared.Refusal.{Refusal}
-use Rattle.answers.specs.declared.ChangeResult.{ChangeResult}
 use Rattle.answers.specs.declared.Refusal.TheVariants.{WrongLength, LengthsDiffer, Unsound, Full, Absent, PastEnd, NoRoom, Early, Descending, BadTail, Miscounted, Spent, Changed}
 use Rattle.answers.specs.Pairs.{said_of, itself, answer_value}
 use Rattle.answers.specs.declared.pairs.Said.{Said}
@@ -33,6 +33,6 @@ pub said-mapped : {A C : Type 0} (v : C → ℕ) (f : A → C) (m : Result A) �
 said-mapped v f (accepted a) = refl
 said-mapped v f (refused n i) = refl
 
--- what `changed` gives of a call that is m on the machine
-pub said-changed : (m : Result Change) (r : ChangeResult) (s : Said) → s ≡ said_of itself (change_of r) → change_of r ≡ answer_of m → s ≡ said_of answer_value m
+-- the pair of an answer is that of the call m on the machine
+pub said-changed : (m : Result Change) (r : S.Result ℕ Refusal) (s : Said) → s ≡ said_of itself (change_of r) → change_of r ≡ answer_of m → s ≡ said_of answer_value m
 said-changed m r s e f = e ∙ rw f (said-mapped itself answer_value m)

@@ -1,7 +1,10 @@
 // The answers of the calls: each gives document 01's answer, or why it is refused; `outcome_of` and its like in specs/Answers.antt give the
-// number and the values of each case.
+// number and the values of each.
 
 #![tactic(auto)]
+
+ghost use Rattle.std.specs.Prelude.{◌≡◌};
+ghost use Rattle.answers.specs.declared.Refusal.TheVariants.{Unsound};
 
 pub mod pairs;
 
@@ -25,18 +28,17 @@ pub enum Refusal {
     Changed,
 }
 
-// What a fresh, a check, a merge, a move or an occupancy page gives.
+// A bucket that was read and is unsound, by its table number.
 #[derive(Clone, Copy)]
-pub enum Outcome {
-    Accepted,
-    Refused(Refusal),
-}
+pub struct UnsoundBucket(pub usize);
 
-// What an insert or a delete gives: "0, or 1 + the backyard number".
-#[derive(Clone, Copy)]
-pub enum ChangeResult {
-    Accepted(usize),
-    Refused(Refusal),
+// "3 unsound bucket read."
+impl From<UnsoundBucket> for Refusal {
+    ghost from_gives = { λ b r. r ≡ Unsound b.0 };
+
+    fn from(bucket: UnsoundBucket) -> Refusal {
+        Refusal::Unsound(bucket.0)
+    }
 }
 
 // "A place: none, front, first or second, the last three with the lowest slot of g in that bag."
@@ -56,13 +58,6 @@ pub struct Asked {
     pub copies: usize,
 }
 
-// What an ask gives.
-#[derive(Clone, Copy)]
-pub enum AskResult {
-    Accepted(Asked),
-    Refused(Refusal),
-}
-
 // "Count gives copies and reads."
 #[derive(Clone, Copy)]
 pub struct Counted {
@@ -70,18 +65,11 @@ pub struct Counted {
     pub reads: u32,
 }
 
-// What a count gives.
+// What a page gives: how many fingerprints, and "the next bucket".
 #[derive(Clone, Copy)]
-pub enum CountResult {
-    Accepted(Counted),
-    Refused(Refusal),
-}
-
-// What a page gives: how many, and "the next bucket".
-#[derive(Clone, Copy)]
-pub enum PageResult {
-    Accepted(usize, usize),
-    Refused(Refusal),
+pub struct Paged {
+    pub entries: usize,
+    pub next: usize,
 }
 
 // What a tail tells: "the total" and "a change count".
@@ -89,13 +77,6 @@ pub enum PageResult {
 pub struct Tail {
     pub total: u64,
     pub changes: u64,
-}
-
-// What the tail of an image is told as.
-#[derive(Clone, Copy)]
-pub enum TailResult {
-    Accepted(Tail),
-    Refused(Refusal),
 }
 
 // An ask in a row: its hash, and what it receives, numbers alone since a row is lent; `received_of` in specs/Rows.antt says what they mean.
@@ -107,11 +88,4 @@ pub struct Entry {
     pub place: u32,
     pub slot: u32,
     pub copies: u32,
-}
-
-// What a row of asks gives: the total of its reads.
-#[derive(Clone, Copy)]
-pub enum RowResult {
-    Accepted(usize),
-    Refused(Refusal),
 }

@@ -5,7 +5,7 @@ ghost use Rattle.machine.specs.Results.{refused as barred};
 ghost use Rattle.answers.specs.Answers.{change_of};
 ghost use Rattle.answers.specs.Pairs.{said_of, refusal_of, itself};
 
-use crate::{ChangeResult, Refusal};
+use crate::Refusal;
 
 // The number of an answer, 0 when accepted, and its value; a refusal's value is its table number, else 0.
 #[derive(Clone, Copy)]
@@ -15,23 +15,25 @@ pub struct Said {
 }
 
 // A refusal: its number, and its table number or 0.
-pub fn refused(why: Refusal) -> Said
-    ensures { result ≡ refusal_of why }
-{
-    match why {
-        Refusal::WrongLength => pair(1, 0),
-        Refusal::LengthsDiffer => pair(2, 0),
-        Refusal::Unsound(table) => pair(3, table),
-        Refusal::Full => pair(4, 0),
-        Refusal::Absent => pair(5, 0),
-        Refusal::PastEnd => pair(6, 0),
-        Refusal::NoRoom => pair(7, 0),
-        Refusal::Early(table) => pair(8, table),
-        Refusal::Descending => pair(10, 0),
-        Refusal::BadTail => pair(11, 0),
-        Refusal::Miscounted => pair(12, 0),
-        Refusal::Spent => pair(13, 0),
-        Refusal::Changed => pair(14, 0),
+impl From<Refusal> for Said {
+    ghost from_gives = { λ why s. s ≡ refusal_of why };
+
+    fn from(why: Refusal) -> Said {
+        match why {
+            Refusal::WrongLength => pair(1, 0),
+            Refusal::LengthsDiffer => pair(2, 0),
+            Refusal::Unsound(table) => pair(3, table),
+            Refusal::Full => pair(4, 0),
+            Refusal::Absent => pair(5, 0),
+            Refusal::PastEnd => pair(6, 0),
+            Refusal::NoRoom => pair(7, 0),
+            Refusal::Early(table) => pair(8, table),
+            Refusal::Descending => pair(10, 0),
+            Refusal::BadTail => pair(11, 0),
+            Refusal::Miscounted => pair(12, 0),
+            Refusal::Spent => pair(13, 0),
+            Refusal::Changed => pair(14, 0),
+        }
     }
 }
 
@@ -46,14 +48,16 @@ fn pair(number: u64, value: usize) -> Said
 }
 
 // What an insert or a delete gives: its answer, or its refusal.
-pub fn changed(given: ChangeResult) -> Said
-    ensures { result ≡ said_of itself (change_of given) }
-{
-    match given {
-        ChangeResult::Accepted(answer) => Said {
-            number: 0,
-            value: answer as u64,
-        },
-        ChangeResult::Refused(why) => refused(why),
+impl From<Result<usize, Refusal>> for Said {
+    ghost from_gives = { λ given s. s ≡ said_of itself (change_of given) };
+
+    fn from(given: Result<usize, Refusal>) -> Said {
+        match given {
+            Ok(answer) => Said {
+                number: 0,
+                value: answer as u64,
+            },
+            Err(why) => Said::from(why),
+        }
     }
 }

@@ -4,15 +4,13 @@ ghost use Rattle.std.specs.Prelude.{◌≡◌, ◌+◌, ◌*◌};
 ghost use Rattle.borders.specs.Steps.Borders.{zeros_in, ends_in, borders_in};
 
 // A leading one, then a bit for each zero of the word's places 0 to 62, the lowest zero's the lowest: 1 where the next bit is one.
-// Seven places a step, from the top.
+// Nine turns of seven places, from the top.
 pub fn borders(w: u64) -> u64
     ensures { result ≡ borders_in 63 w }
 {
     let mut bits: u64 = 1;
-    let mut at: u32 = 63;
-    while 0 < at {
-        at -= 7;
-        let here = piece(((w >> at) % 256) as u8);
+    for turn in (0..9u32).rev() {
+        let here = piece(((w >> (7 * turn)) % 256) as u8);
         bits = (bits << (here % 8)) + here / 8;
     }
     bits

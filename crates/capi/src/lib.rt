@@ -14,7 +14,7 @@ ghost use Rattle.packing.specs.Packing as P;
 ghost use Rattle.packing.specs.Totals.{tail_into};
 
 use answers::Entry;
-use answers::pairs::changed;
+use answers::pairs::Said;
 use breadcrumb::{
     ask, attach, check, count, delete, detach, fresh, insert, merge, occupancy, page, tail,
 };
@@ -48,7 +48,7 @@ pub fn bcf_insert(image: &mut [u8], hash: u64) -> u64
     ensures value { result ≡ P.packed answer_value (insert_of known image.old hash) }
     ensures image_after { image.new ≡ image_of (insert_of known image.old hash) image.old }
 {
-    packed(changed(insert(image, hash)))
+    packed(Said::from(insert(image, hash)))
 }
 
 // A hash is deleted.
@@ -56,7 +56,7 @@ pub fn bcf_delete(image: &mut [u8], hash: u64) -> u64
     ensures value { result ≡ P.packed answer_value (delete_of known image.old hash) }
     ensures image_after { image.new ≡ image_of (delete_of known image.old hash) image.old }
 {
-    packed(changed(delete(image, hash)))
+    packed(Said::from(delete(image, hash)))
 }
 
 // Where a hash stands and how often there, and how many buckets were read to tell.

@@ -6,12 +6,12 @@ use mathlib.Core.List.{List, ◌++◌}
 use native.Mathlib.Omega.{arith}
 use lib.ListN.{length, take, drop}
 use lib.Seq.{take-append_seam}
+use Rattle.std.specs.Prelude as S
 use Rattle.crumbmap.specs.Layouts.{known, layout1}
 use Rattle.machine.specs.Results.{Result, accepted, refused}
 use Rattle.machine.specs.Pages.{Run}
 use Rattle.form.specs.Calls.{page_of}
 use Rattle.answers.specs.Answers.{extent_of}
-use Rattle.answers.specs.declared.PageResult.TheVariants as G
 use Rattle.history.specs.Histories as H
 use Rattle.history.specs.Histories.{Call, History, bytes_after}
 use Rattle.history.specs.Walks as W
@@ -52,11 +52,11 @@ page-wrote (inserted k r new p) e = tt
 page-wrote (deleted k r new p) e = tt
 page-wrote (asked k r p) e = tt
 page-wrote (counted k r p) e = tt
-page-wrote (paged s changes old (G.Refused x) out p) e = absurd (refusal-never (ℕ × ℕ) x e)
-page-wrote {img} (paged s changes old (G.Accepted n next) out p) e =
-    let x = extent-accepted (page_of known img s changes (length old)) n next p.answer in
+page-wrote (paged s changes old (S.Err x) out p) e = absurd (refusal-never (ℕ × ℕ) x e)
+page-wrote {img} (paged s changes old (S.Ok g) out p) e =
+    let x = extent-accepted (page_of known img s changes (length old)) g.entries g.next p.answer in
     let wrote : out ≡ x.0.entries ++ drop (length x.0.entries) old = cc (p.bytes, x.1) in
-    record { run = x.0; page = x.1; entries = first-entries out x.0.entries (drop (length x.0.entries) old) n wrote x.2; goes_on = x.3 }
+    record { run = x.0; page = x.1; entries = first-entries out x.0.entries (drop (length x.0.entries) old) g.entries wrote x.2; goes_on = x.3 }
 
 -- a page on the image that a run left is a page after its history
 page-after : {h : History} {img : List ℕ} (run : Happened h img) {s n room : ℕ} {gs : List ℕ} {next : ℕ} (g : Gives img s n room gs next)

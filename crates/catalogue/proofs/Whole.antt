@@ -12,6 +12,7 @@ use mathlib.Core.Option.{some}
 use lib.ListN.{length, take, drop, length-drop}
 use lib.Seq.{take-append-le, drop-append-le}
 use native.Mathlib.Omega.{arith}
+use Rattle.std.specs.Prelude as S
 use Rattle.crumbmap.specs.Layouts.{Layout, known, layout1, fronts, most_members}
 use Rattle.crumbmap.specs.Fingerprints.{front_of, key_of}
 use Rattle.crumbmap.specs.CrumbMap.{coincide}
@@ -23,19 +24,12 @@ use Rattle.form.specs.Tails as F
 use Rattle.form.specs.Tails.{body, top}
 use Rattle.form.specs.Calls.{ask_of, count_of, check_of, tail_of, merge_of, occupancy_of}
 use Rattle.answers.specs.Answers.{outcome_of, asked_of, counted_of, tailed_of, place_of, Prints, Occupancies, Merges}
-use Rattle.answers.specs.declared.Outcome.{Outcome}
-use Rattle.answers.specs.declared.Outcome.TheVariants as D
+use Rattle.answers.specs.declared.Refusal.{Refusal}
 use Rattle.answers.specs.declared.Counted.{Counted}
-use Rattle.answers.specs.declared.CountResult.{CountResult}
-use Rattle.answers.specs.declared.CountResult.TheVariants as T
 use Rattle.answers.specs.declared.Asked.{Asked}
-use Rattle.answers.specs.declared.AskResult.{AskResult}
-use Rattle.answers.specs.declared.AskResult.TheVariants as A
 use Rattle.answers.specs.declared.Place.{Place}
 use Rattle.answers.specs.declared.Place.TheVariants as P
 use Rattle.answers.specs.declared.Tail.{Tail}
-use Rattle.answers.specs.declared.TailResult.{TailResult}
-use Rattle.answers.specs.declared.TailResult.TheVariants as S
 use Rattle.history.specs.Histories as H
 use Rattle.history.specs.Histories.{Call, History, Fits, Started, blocks, layout_number, bytes_after}
 use Rattle.history.specs.Ledgers.{ledger, smaller, filed}
@@ -54,26 +48,26 @@ use Rattle.catalogue.proofs.ToldWalks.{walk-told}
 -- ---- what a caller meets
 
 -- an answer that the machine accepts is accepted, with the machine's values
-count-accepted : (r : CountResult) (m : M.Counted) → counted_of r ≡ accepted m
-    → (c : Counted) × (r ≡ T.Accepted c) × (c.copies ≡ m.copies) × (c.reads ≡ m.reads)
-count-accepted (T.Accepted c) m e = let s = same_answer e in (c, refl, ap (λ (x : M.Counted). x.copies) s, ap (λ (x : M.Counted). x.reads) s)
-count-accepted (T.Refused x) m e = absurd (refusal-never M.Counted x (ap number e))
+count-accepted : (r : S.Result Counted Refusal) (m : M.Counted) → counted_of r ≡ accepted m
+    → (c : Counted) × (r ≡ S.Ok c) × (c.copies ≡ m.copies) × (c.reads ≡ m.reads)
+count-accepted (S.Ok c) m e = let s = same_answer e in (c, refl, ap (λ (x : M.Counted). x.copies) s, ap (λ (x : M.Counted). x.reads) s)
+count-accepted (S.Err x) m e = absurd (refusal-never M.Counted x (ap number e))
 
-ask-accepted : (r : AskResult) (m : M.Asked) → asked_of r ≡ accepted m
-    → (a : Asked) × (r ≡ A.Accepted a) × (a.reads ≡ m.reads) × (place_of a.place ≡ m.place) × (a.copies ≡ m.copies)
-ask-accepted (A.Accepted a) m e =
+ask-accepted : (r : S.Result Asked Refusal) (m : M.Asked) → asked_of r ≡ accepted m
+    → (a : Asked) × (r ≡ S.Ok a) × (a.reads ≡ m.reads) × (place_of a.place ≡ m.place) × (a.copies ≡ m.copies)
+ask-accepted (S.Ok a) m e =
     let s = same_answer e in
     (a, refl, ap (λ (x : M.Asked). x.reads) s, ap (λ (x : M.Asked). x.place) s, ap (λ (x : M.Asked). x.copies) s)
-ask-accepted (A.Refused x) m e = absurd (refusal-never M.Asked x (ap number e))
+ask-accepted (S.Err x) m e = absurd (refusal-never M.Asked x (ap number e))
 
-tail-accepted : (r : TailResult) (m : F.Tail) → tailed_of r ≡ accepted m
-    → (t : Tail) × (r ≡ S.Accepted t) × (t.total ≡ m.total) × (t.changes ≡ m.changes)
-tail-accepted (S.Accepted t) m e = let s = same_answer e in (t, refl, ap (λ (x : F.Tail). x.total) s, ap (λ (x : F.Tail). x.changes) s)
-tail-accepted (S.Refused x) m e = absurd (refusal-never F.Tail x (ap number e))
+tail-accepted : (r : S.Result Tail Refusal) (m : F.Tail) → tailed_of r ≡ accepted m
+    → (t : Tail) × (r ≡ S.Ok t) × (t.total ≡ m.total) × (t.changes ≡ m.changes)
+tail-accepted (S.Ok t) m e = let s = same_answer e in (t, refl, ap (λ (x : F.Tail). x.total) s, ap (λ (x : F.Tail). x.changes) s)
+tail-accepted (S.Err x) m e = absurd (refusal-never F.Tail x (ap number e))
 
-outcome-accepted : (r : Outcome) → outcome_of r ≡ accepted tt → r ≡ D.Accepted
-outcome-accepted D.Accepted e = refl
-outcome-accepted (D.Refused x) e = absurd (refusal-never (Unit {0}) x (ap number e))
+outcome-accepted : (r : S.Result (Unit {0}) Refusal) → outcome_of r ≡ accepted tt → r ≡ S.Ok tt
+outcome-accepted (S.Ok u) e = refl
+outcome-accepted (S.Err x) e = absurd (refusal-never (Unit {0}) x (ap number e))
 
 -- nowhere, in the code's words and in the machine's
 nowhere-place : (p : Place) → place_of p ≡ M.nowhere → p ≡ P.Nowhere
@@ -109,10 +103,10 @@ module _ {h : History} {img : List ℕ} (happened : Happened h img) where
   unfolding layout_number
   next-due c n new fits d = (performed d).0 ∙ rw left (holds_at (H.followed h c) (started, fits) (numbered happened)).refusals.1
 
-  count-tells : (k : ℕ) (r : CountResult) → k < 2 ^ 64 → counted_of r ≡ count_of known img k → (c : Counted) × (r ≡ T.Accepted c) × (c.copies ≡ times_filed h k)
+  count-tells : (k : ℕ) (r : S.Result Counted Refusal) → k < 2 ^ 64 → counted_of r ≡ count_of known img k → (c : Counted) × (r ≡ S.Ok c) × (c.copies ≡ times_filed h k)
   count-tells k r l e = let m = holds.counts k l in let c = count-accepted r _ ((rw left at e) ∙ m.1) in (c.0, c.1, c.2)
 
-  ask-tells : (k : ℕ) (r : AskResult) → k < 2 ^ 64 → asked_of r ≡ ask_of known img k → (a : Asked) × (r ≡ A.Accepted a)
+  ask-tells : (k : ℕ) (r : S.Result Asked Refusal) → k < 2 ^ 64 → asked_of r ≡ ask_of known img k → (a : Asked) × (r ≡ S.Ok a)
       × ((a.place ≡ P.Nowhere → ⊥) ↔ (0 < times_filed h k))
       × ((1 < a.reads) ↔ (layout1.front_slots ≤ smaller layout1 (ledger known layout1 h) (front_of (blocks h) k) (key_of layout1 k)))
   ask-tells k r l e =
@@ -124,17 +118,17 @@ module _ {h : History} {img : List ℕ} (happened : Happened h img) where
         rw a.2 m.3,
       )
 
-  tail-tells : (r : TailResult) → tailed_of r ≡ tail_of known img
-      → (t : Tail) × (r ≡ S.Accepted t) × (t.total ≡ (filed known h).total) × (t.changes ≡ (filed known h).changes)
+  tail-tells : (r : S.Result Tail Refusal) → tailed_of r ≡ tail_of known img
+      → (t : Tail) × (r ≡ S.Ok t) × (t.total ≡ (filed known h).total) × (t.changes ≡ (filed known h).changes)
   tail-tells r e = tail-accepted r (filed known h) ((rw left at e) ∙ holds.tail)
 
   never-tail-number : (c : Call) (n : ℕ) (new : List ℕ) → Fits c → Performed img c n new → (n ≡ 11 → ⊥) × (n ≡ 12 → ⊥)
   never-tail-number c n new fits d = rw ((performed d).0, left) (no-tail-number known known-fit h started c fits)
 
-  checked : (r : Outcome) → outcome_of r ≡ check_of known img → r ≡ D.Accepted
+  checked : (r : S.Result (Unit {0}) Refusal) → outcome_of r ≡ check_of known img → r ≡ S.Ok tt
   checked r e = outcome-accepted r ((rw left at e) ∙ check-accepts known known-fit h started)
 
-merge-only-full : {h g : History} {img x : List ℕ} → Happened h img → Happened g x → (old new : List ℕ) (r : Outcome) → length img ≡ length old
+merge-only-full : {h g : History} {img x : List ℕ} → Happened h img → Happened g x → (old new : List ℕ) (r : S.Result (Unit {0}) Refusal) → length img ≡ length old
     → length x ≡ length old → Merges img x old r new → (number (outcome_of r) ≡ 0) ⊎ (number (outcome_of r) ≡ 4)
 merge-only-full {h} {g} {img} {x} p q old new r a b m =
     rw (ap number m.answer ∙ number-then (merge_of known img x old) (λ (i : List ℕ). tt), left p, left q)
@@ -180,8 +174,8 @@ pub calls-lead-home : {h : History} {img : List ℕ} → Happened h img → AllL
 calls-lead-home {h} happened = rw (left happened) (members-lead-home known known-fit h (started happened) layout1 (named happened))
 
 -- and the copies that an ask of that image tells are 0 exactly where its place is none, N(g) at most, and N(g) where none can stand behind the front bucket
-pub calls-tell-copies : {h : History} {img : List ℕ} → Happened h img → (k : ℕ) (r : AskResult) → k < 2 ^ 64 → asked_of r ≡ ask_of known img k
-    → (a : Asked) × (r ≡ A.Accepted a) × CopiesTold known layout1 h k a.copies (a.place ≡ P.Nowhere)
+pub calls-tell-copies : {h : History} {img : List ℕ} → Happened h img → (k : ℕ) (r : S.Result Asked Refusal) → k < 2 ^ 64 → asked_of r ≡ ask_of known img k
+    → (a : Asked) × (r ≡ S.Ok a) × CopiesTold known layout1 h k a.copies (a.place ≡ P.Nowhere)
 calls-tell-copies {h} happened k r l e =
     let m = copies-told known known-fit h (started happened) layout1 (named happened) k l in
     let a = ask-accepted r _ ((rw (left happened) at e) ∙ m.1) in
@@ -198,8 +192,8 @@ calls-tell-copies {h} happened k r l e =
 
 -- and at a front bucket whose two backyard buckets coincide an ask of that image has at most 2 reads and is never told first, and a count has at most 2
 pub calls-read-once : {h : History} {img : List ℕ} → Happened h img → (k : ℕ) → k < 2 ^ 64 → coincide (blocks h) (front_of (blocks h) k) ≡ true
-    → ((r : AskResult) → asked_of r ≡ ask_of known img k → (a : Asked) × (r ≡ A.Accepted a) × (a.reads ≤ 2) × ((i : ℕ) → a.place ≡ P.First i → ⊥))
-    × ((r : CountResult) → counted_of r ≡ count_of known img k → (c : Counted) × (r ≡ T.Accepted c) × (c.reads ≤ 2))
+    → ((r : S.Result Asked Refusal) → asked_of r ≡ ask_of known img k → (a : Asked) × (r ≡ S.Ok a) × (a.reads ≤ 2) × ((i : ℕ) → a.place ≡ P.First i → ⊥))
+    × ((r : S.Result Counted Refusal) → counted_of r ≡ count_of known img k → (c : Counted) × (r ≡ S.Ok c) × (c.reads ≤ 2))
 calls-read-once {h} happened k l one = (
   λ r e.
       let m = (holds happened).asks k l in
@@ -213,13 +207,13 @@ calls-read-once {h} happened k l one = (
 )
 
 -- and an occupancy page of that image prints what the ledger says: for each front bucket all of N over its fingerprints, split at 28
-pub calls-tell-occupancy : {h : History} {img : List ℕ} → Happened h img → (p : ℕ) (old new : List ℕ) (r : Outcome)
+pub calls-tell-occupancy : {h : History} {img : List ℕ} → Happened h img → (p : ℕ) (old new : List ℕ) (r : S.Result (Unit {0}) Refusal)
     → Occupancies img p old r new → Prints (page_said known layout1 h p (length old)) old r new
 calls-tell-occupancy {h} happened p old new r c =
     rw (left happened, occupancy-said known known-fit h (started happened) layout1 (named happened) p (length old)) at c
 
 -- what an accepted one printed
-print-accepted : (m : Result (List ℕ)) (old new : List ℕ) → Prints m old D.Accepted new
+print-accepted : (m : Result (List ℕ)) (old new : List ℕ) → Prints m old (S.Ok tt) new
     → (text : List ℕ) × (m ≡ accepted text) × (new ≡ text ++ drop (length text) old)
 print-accepted (accepted text) old new c = (text, refl, c.bytes)
 print-accepted (refused n i) old new c = absurd (never-refused c.answer)
@@ -230,11 +224,11 @@ line-in a n text rest h =
     rw (drop-append-le a text rest (omega arith)) (take-append-le n (drop a text) rest (rw (length-drop a text) (omega arith)))
 
 -- whoever reads line i of an accepted one reads the number of its front bucket, the first 28 of what is filed there, and the rest
-pub calls-show-occupancy : {h : History} {img : List ℕ} → Happened h img → (p i : ℕ) (old new : List ℕ) → Occupancies img p old D.Accepted new
+pub calls-show-occupancy : {h : History} {img : List ℕ} → Happened h img → (p i : ℕ) (old new : List ℕ) → Occupancies img p old (S.Ok tt) new
     → i < page_lines → page_lines * p + i < fronts (blocks h)
     → let f = page_lines * p + i in Shows layout1 f (filed_in layout1 (ledger known layout1 h) f) (take (line_bytes layout1) (drop (i * line_bytes layout1) new))
 calls-show-occupancy {h} happened p i old new c l k =
-    let told : Occupancies (bytes_after known h) p old D.Accepted new = rw (left happened) at c in
+    let told : Occupancies (bytes_after known h) p old (S.Ok tt) new = rw (left happened) at c in
     let t = print-accepted (occupancy_of known (bytes_after known h) p (length old)) old new told in
     let n = page-long known known-fit h (started happened) layout1 (named happened) p (length old) t.0 t.1 in
     rw (t.2, line-in (i * line_bytes layout1) (line_bytes layout1) t.0 (drop (length t.0) old) (omega arith))

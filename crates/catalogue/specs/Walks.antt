@@ -2,22 +2,23 @@
 -- one before gave, the last giving F"; each brings "the change count that the walk began with" (C-15). It is a walk inside the run that the
 -- contracts tell, so the entries that it joins are those that this run's own pages wrote.
 use Rattle.std.specs.Prelude.{ℕ, List, [], ◌++◌, take}
+use Rattle.std.specs.Prelude as S
 use Rattle.crumbmap.specs.Layouts.{known, layout1, fronts}
-use Rattle.answers.specs.declared.PageResult.{PageResult}
-use Rattle.answers.specs.declared.PageResult.TheVariants as G
+use Rattle.answers.specs.declared.Refusal.{Refusal}
+use Rattle.answers.specs.declared.Paged.{Paged}
 use Rattle.history.specs.Histories as H
 use Rattle.history.specs.Histories.{Call, History, Fits, blocks}
 use Rattle.history.specs.Ledgers.{ledger}
 use Rattle.catalogue.specs.Runs.{Performed, inserted, deleted, asked, counted, paged, Happened, followed}
 
 -- a page "gives how many and the next bucket": so many entries, from the start of its output after the call
-abbrev pub entries_in : PageResult → List ℕ → List ℕ
-entries_in (G.Accepted n next) out = take n out
-entries_in (G.Refused r) out = []
+abbrev pub entries_in : S.Result Paged Refusal → List ℕ → List ℕ
+entries_in (S.Ok p) out = take p.entries out
+entries_in (S.Err r) out = []
 
-abbrev pub next_in : PageResult → ℕ
-next_in (G.Accepted n next) = next
-next_in (G.Refused r) = 0
+abbrev pub next_in : S.Result Paged Refusal → ℕ
+next_in (S.Ok p) = p.next
+next_in (S.Err r) = 0
 
 -- the entries that a call wrote, and the next bucket that it gave; only pages do
 abbrev pub entries_of : {img new : List ℕ} {c : Call} {n : ℕ} → Performed img c n new → List ℕ

@@ -1,5 +1,5 @@
 -- Which of two members leaves the backyard, the one of First(f) or the one of Second(f), each the smallest there of those that are asked for.
--- Main results: `picked`, and `pick_first` and its like, what the code's comparisons come to.
+-- Main result: `picked`.
 use mathlib.Core.Path.{◌≡◌, refl, sym, ◌∙◌}
 use Prim.Native.Nat.{ℕ, zero, suc, ◌+◌, ◌*◌, ◌≤◌, ◌<◌}
 use mathlib.Core.Bool.{Bool, true, false, cond}
@@ -7,7 +7,8 @@ use mathlib.Core.List.{List}
 use native.Mathlib.Omega.{arith, by_contra}
 use lib.ListN.{length}
 use lib.Dec.{ltb}
-use borrow.Author.Tests.{lt-ltb, le-ltb, ltb-true, ltb-false}
+use borrow.Author.Tests.{lt-ltb, ltb-true, ltb-false}
+use Rattle.std.specs.Prelude as S
 use Rattle.multiset.specs.Multisets.{copies, below}
 use Rattle.multiset.proofs.MultisetLaws.{below-copies}
 use Rattle.crumbmap.specs.Layouts.{Layout, keys}
@@ -22,8 +23,6 @@ use Rattle.image.specs.Steps.ImageReads.{BothRead}
 use Rattle.image.proofs.ImageReadLaws.{chosen-read, chosen-way}
 use Rattle.deletion.specs.Steps.Deletions.{pick_of, firstly, Leaves}
 use Rattle.deletion.specs.declared.Departure.{Departure}
-use Rattle.deletion.specs.declared.Leaving.{Leaving}
-use Rattle.deletion.specs.declared.Leaving.TheVariants as W
 
 -- "taken from First if n0 > n1, else from Second", where it stands in one of them or in both
 module _ (v : ℕ) (xs ys : List ℕ) (n0 n1 : ℕ) where
@@ -38,25 +37,6 @@ module _ (v : ℕ) (xs ys : List ℕ) (n0 n1 : ℕ) where
   from_either : 0 < copies v xs → 0 < copies v ys → from_first v xs ys n0 n1 ≡ ltb n1 n0
   unfolding from_first has
   from_either h k = rw (lt-ltb 0 (copies v xs) h, lt-ltb 0 (copies v ys) k)
-
--- what the code answers in each case
-module _ {r s : Leaving} {a : Departure} (n0 n1 : ℕ) (e : r ≡ W.Member a) where
-  pub pick-alone : s ≡ W.Nothing → W.Member a ≡ pick_of r s n0 n1
-  pick-alone q = rw (e, q)
-
-  module _ {b : Departure} (q : s ≡ W.Member b) where
-    pub pick_first : a.key < b.key → W.Member a ≡ pick_of r s n0 n1
-    pick_first h = rw (e, q, lt-ltb a.key b.key h)
-
-    pub pick_second : b.key < a.key → W.Member b ≡ pick_of r s n0 n1
-    pick_second h = rw (e, q, le-ltb a.key b.key (omega arith), lt-ltb b.key a.key h)
-
-    module _ (h : b.key ≤ a.key) (k : a.key ≤ b.key) where
-      pub pick-tie-first : n1 < n0 → W.Member a ≡ pick_of r s n0 n1
-      pick-tie-first l = rw (e, q, le-ltb a.key b.key h, le-ltb b.key a.key k, lt-ltb n1 n0 l)
-
-      pub pick-tie-second : n0 ≤ n1 → W.Member b ≡ pick_of r s n0 n1
-      pick-tie-second l = rw (e, q, le-ltb a.key b.key h, le-ltb b.key a.key k, le-ltb n1 n0 l)
 
 -- a count that is not above 0
 none : (n : ℕ) → (0 < n → ⊥) → n ≡ 0
@@ -76,9 +56,9 @@ module _ (L : Layout) (B f : ℕ) (img : List ℕ) (asked : ℕ → Type 0) wher
     pub least : (z : ℕ) → asked z → 0 < copies z (bag_in L B f t img) → d.key ≤ z
     pub slot : d.slot ≡ below (d.key * 16 + crumb_of t f) (in_back L B (bucket_of t B f) img)
 
-  abbrev pub Offers : Bool → Leaving → Type 0
-  Offers t (W.Member d) = Offered t d
-  Offers t W.Nothing = (z : ℕ) → asked z → copies z (bag_in L B f t img) ≡ 0
+  abbrev pub Offers : Bool → S.Option Departure → Type 0
+  Offers t (S.Some d) = Offered t d
+  Offers t S.None = (z : ℕ) → asked z → copies z (bag_in L B f t img) ≡ 0
 
   -- a member leaves by the rule, the smallest of both of those that are asked for
   pub record Picked (d : Departure) : Type 0 where
@@ -87,9 +67,9 @@ module _ (L : Layout) (B f : ℕ) (img : List ℕ) (asked : ℕ → Type 0) wher
     pub there : 0 < copies d.key (bag_in L B f true img) + copies d.key (bag_in L B f false img)
     pub least : (z : ℕ) → asked z → 0 < copies z (bag_in L B f true img) + copies z (bag_in L B f false img) → d.key ≤ z
 
-  abbrev pub Picks : Leaving → Type 0
-  Picks (W.Member d) = Picked d
-  Picks W.Nothing = (z : ℕ) → asked z → copies z (bag_in L B f true img) + copies z (bag_in L B f false img) ≡ 0
+  abbrev pub Picks : S.Option Departure → Type 0
+  Picks (S.Some d) = Picked d
+  Picks S.None = (z : ℕ) → asked z → copies z (bag_in L B f true img) + copies z (bag_in L B f false img) ≡ 0
 
   module _ (both : BothRead L B f img) where
     leaves : (t : Bool) {d : Departure} → Offered t d → firstly L B f d.key img ≡ t → Leaves L B f d img
@@ -134,10 +114,10 @@ module _ (L : Layout) (B f : ℕ) (img : List ℕ) (asked : ℕ → Type 0) wher
 
     module _ (n0 n1 : ℕ) (m0 : length (in_back L B (first_bucket f) img) ≡ n0) (m1 : length (in_back L B (second_bucket B f) img) ≡ n1) where
       -- both offer the same
-      tie : {a b : Departure} → Offered true a → Offered false b → a.key ≡ b.key → Picks (cond (ltb n1 n0) (W.Member a) (W.Member b))
+      tie : {a b : Departure} → Offered true a → Offered false b → a.key ≡ b.key → Picks (cond (ltb n1 n0) (S.Some a) (S.Some b))
       tie {a} {b} o p e = go (ltb n1 n0) refl
         where
-          go : (t : Bool) → ltb n1 n0 ≡ t → Picks (cond t (W.Member a) (W.Member b))
+          go : (t : Bool) → ltb n1 n0 ≡ t → Picks (cond t (S.Some a) (S.Some b))
           go true q = record {
             wanted = o.wanted;
             leaves = leaves true o (from_either a.key xs ys _ _ o.there (rw e p.there) ∙ rw (m0, m1) q);
@@ -151,11 +131,11 @@ module _ (L : Layout) (B f : ℕ) (img : List ℕ) (asked : ℕ → Type 0) wher
             least = λ z w h. either (copies z xs) (copies z ys) h (λ k. rw (sym e) (o.least z w k)) (p.least z w);
           }
 
-      two : {a b : Departure} → Offered true a → Offered false b → Picks (pick_of (W.Member a) (W.Member b) n0 n1)
+      two : {a b : Departure} → Offered true a → Offered false b → Picks (pick_of (S.Some a) (S.Some b) n0 n1)
       two {a} {b} o p = go (ltb a.key b.key) (ltb b.key a.key) refl refl
         where
           go : (t u : Bool) → ltb a.key b.key ≡ t → ltb b.key a.key ≡ u
-              → Picks (cond t (W.Member a) (cond u (W.Member b) (cond (ltb n1 n0) (W.Member a) (W.Member b))))
+              → Picks (cond t (S.Some a) (cond u (S.Some b) (cond (ltb n1 n0) (S.Some a) (S.Some b))))
           go true u e q =
               let h = ltb-true a.key b.key e in
               take-first o (none (copies a.key ys) (λ k. omega (arith, p.least a.key o.wanted k, h))) (λ z w k. omega (arith, p.least z w k, h))
@@ -164,8 +144,8 @@ module _ (L : Layout) (B f : ℕ) (img : List ℕ) (asked : ℕ → Type 0) wher
               take_second p (none (copies b.key xs) (λ k. omega (arith, o.least b.key p.wanted k, h))) (λ z w k. omega (arith, o.least z w k, h))
           go false false e q = tie o p (omega (arith, ltb-false a.key b.key e, ltb-false b.key a.key q))
 
-      pub picked : (r s : Leaving) → Offers true r → Offers false s → Picks (pick_of r s n0 n1)
-      picked W.Nothing W.Nothing o p = λ z w. omega (arith, o z w, p z w)
-      picked W.Nothing (W.Member b) o p = take_second p (o b.key p.wanted) (λ z w k. absurd (omega (arith, o z w, k)))
-      picked (W.Member a) W.Nothing o p = take-first o (p a.key o.wanted) (λ z w k. absurd (omega (arith, p z w, k)))
-      picked (W.Member a) (W.Member b) o p = two o p
+      pub picked : (r s : S.Option Departure) → Offers true r → Offers false s → Picks (pick_of r s n0 n1)
+      picked S.None S.None o p = λ z w. omega (arith, o z w, p z w)
+      picked S.None (S.Some b) o p = take_second p (o b.key p.wanted) (λ z w k. absurd (omega (arith, o z w, k)))
+      picked (S.Some a) S.None o p = take-first o (p a.key o.wanted) (λ z w k. absurd (omega (arith, p z w, k)))
+      picked (S.Some a) (S.Some b) o p = two o p

@@ -1,13 +1,14 @@
 -- A delete by what was read: the copy stands in front with free slots, in a full front that is refilled, behind it, or nowhere.
 use mathlib.Core.Path.{◌≡◌, ◌∙◌}
 use Prim.Native.Nat.{ℕ, ◌+◌, ◌-◌, ◌≤◌, ◌<◌}
-use mathlib.Core.Bool.{true, false}
+use mathlib.Core.Bool.{Bool, true, false}
 use mathlib.Core.List.{List, [], ◌∷◌}
 use native.Mathlib.Decide.{ℕ_discrete}
 use native.Mathlib.Omega.{arith}
 use lib.ListN.{length, take}
 use lib.Dec.{ltb}
 use borrow.Author.Tests.{lt-ltb, le-ltb, eq-eqb, ne_eqb}
+use Rattle.std.specs.Prelude as S
 use Rattle.multiset.specs.Multisets.{added, removed, copies, largest}
 use Rattle.crumbmap.specs.Layouts.{Layout, layout1, known}
 use Rattle.buckets.specs.Buckets.{Fits64, FrontList}
@@ -34,7 +35,7 @@ use Rattle.tails.specs.Steps.Changing.{within, tail_within}
 use Rattle.tails.specs.declared.Opened.{Opened}
 use Rattle.tails.proofs.OpenLaws.{then-opened}
 use Rattle.tails.proofs.CallLaws.{hash-call}
-use Rattle.deletion.specs.Steps.Deletions.{DeletesAt, roomless, Stands, Leaves, without, refilled, Plans, LeavesFront, Refills, TakesOut}
+use Rattle.deletion.specs.Steps.Deletions.{DeletesAt, Stands, Leaves, without, refilled, Plans, LeavesFront, Refills, TakesOut}
 use Rattle.deletion.specs.declared.Departure.{Departure}
 use Rattle.deletion.specs.declared.Refill.{Refill}
 use Rattle.deletion.specs.declared.DeletePlan.{DeletePlan}
@@ -161,26 +162,28 @@ module _ {L : Layout} (fits : Fits64 L) {t : Target} {r : Refill} {img mid : Lis
 
 -- ---- what a plan said
 
-module _ (L : Layout) (t : Target) (img : List ℕ) {r : DeletePlan} (said : Plans L t img r) where
-  pub plan-refused : {why : Refusal} → r ≡ P.Refused why → delete_at L t.size t.front.0 t.key img ≡ refusal why
-  plan-refused e = rw e at said
+module _ (L : Layout) (t : Target) (img : List ℕ) where
+  -- its own refusal, whether the total has room or not
+  pub plan-refused : (room : Bool) {why : Refusal} → delete_at L t.size t.front.0 t.key img ≡ refusal why → DeletesAt L t room img (S.Err why) img
+  unfolding within
+  plan-refused room {why} e = changes (rw e) (change-refused why img)
 
-  pub plan-leaves : {slot : ℕ} → r ≡ P.Leaves slot → LeavesFront L t slot img
-  plan-leaves e = rw e at said
+  -- 12 comes behind it
+  pub plan-roomless : (r : DeletePlan) → Plans L t img (S.Ok r) → DeletesAt L t false img (S.Err Miscounted) img
+  unfolding within
+  plan-roomless (P.Leaves slot) said = changes (rw said.delete) (change-refused Miscounted img)
+  plan-roomless (P.Refills r) said = changes (rw said.delete) (change-refused Miscounted img)
+  plan-roomless (P.TakesOut d) said = changes (rw said.delete) (change-refused Miscounted img)
 
-  pub plan-refills : {q : Refill} → r ≡ P.Refills q → Refills L t q img
-  plan-refills e = rw e at said
+  module _ {r : DeletePlan} (said : Plans L t img (S.Ok r)) where
+    pub plan-leaves : {slot : ℕ} → r ≡ P.Leaves slot → LeavesFront L t slot img
+    plan-leaves e = rw e at said
 
-  pub plan-takes-out : {d : Departure} → r ≡ P.TakesOut d → TakesOut L t d img
-  plan-takes-out e = rw e at said
+    pub plan-refills : {q : Refill} → r ≡ P.Refills q → Refills L t q img
+    plan-refills e = rw e at said
 
--- the refusal of a plan for which the total has no room
-pub plan-roomless : (L : Layout) (t : Target) (img : List ℕ) (r : DeletePlan) → Plans L t img r → DeletesAt L t false img (roomless r) img
-unfolding within
-plan-roomless L t img (P.Refused why) said = changes (rw said) (change-refused why img)
-plan-roomless L t img (P.Leaves slot) said = changes (rw said.delete) (change-refused Miscounted img)
-plan-roomless L t img (P.Refills r) said = changes (rw said.delete) (change-refused Miscounted img)
-plan-roomless L t img (P.TakesOut d) said = changes (rw said.delete) (change-refused Miscounted img)
+    pub plan-takes-out : {d : Departure} → r ≡ P.TakesOut d → TakesOut L t d img
+    plan-takes-out e = rw e at said
 
 -- ---- on an image that was opened, by the delete of its body
 

@@ -9,6 +9,7 @@ use native.Mathlib.Nat.{le_antisymm}
 use native.Mathlib.Omega.{arith}
 use lib.Dec.{T}
 use borrow.Author.Tests.{lt-ltb}
+use Rattle.std.specs.Prelude as S
 use Rattle.multiset.specs.Multisets.{copies, ascending, Found, found_in}
 use Rattle.multiset.proofs.RankLaws.{absent-copies, found-copies}
 use Rattle.multiset.proofs.MultisetLaws.{hit_same, copies-cons, copies-none}
@@ -30,8 +31,6 @@ use Rattle.image.specs.declared.BackReading.{BackReading}
 use Rattle.image.proofs.ImageReadLaws.{both_read}
 use Rattle.deletion.specs.Steps.Deletions.{pick_of, departing, leaving, least_in, copy_in, Leaves}
 use Rattle.deletion.specs.declared.Departure.{Departure}
-use Rattle.deletion.specs.declared.Leaving.{Leaving}
-use Rattle.deletion.specs.declared.Leaving.TheVariants as W
 use Rattle.deletion.proofs.ChoiceLaws.{Offers, Picks, Picked, picked}
 
 -- ---- what one of the two bags offers
@@ -98,17 +97,17 @@ headed m (u ∷ us) a h least =
     (us, rw e)
 
 module _ {L : Layout} {B f x : ℕ} {img : List ℕ} {a b : BackReading} (p : Reads L true B f x img a) (q : Reads L false B f x img b) where
-  module _ {r : Leaving} (said : r ≡ pick_of (least_in L B a.way img) (least_in L B b.way img) a.members b.members) where
+  module _ {r : S.Option Departure} (said : r ≡ pick_of (least_in L B a.way img) (least_in L B b.way img) a.members b.members) where
     least-picks : Picks L B f img any r
     least-picks = rw said (picked L B f img any (both_read p q) a.members b.members p.many q.many (least_in L B a.way img) (least_in L B b.way img)
         (offer-least L true B f img a.way p.leads p.read) (offer-least L false B f img b.way q.leads q.read))
 
-    pub least-nothing : r ≡ W.Nothing → overflow_in L B f img ≡ []
+    pub least-nothing : r ≡ S.None → overflow_in L B f img ≡ []
     least-nothing e =
-        let n : Picks L B f img any W.Nothing = rw e at least-picks in
+        let n : Picks L B f img any S.None = rw e at least-picks in
         copies-none (overflow_in L B f img) (λ z. rw (copies-added_all z (bag_in L B f true img) (bag_in L B f false img)) (n z tt))
 
-    pub least-member : {d : Departure} → r ≡ W.Member d → Leaves L B f d img × ((us : List ℕ) × (overflow_in L B f img ≡ d.key ∷ us))
+    pub least-member : {d : Departure} → r ≡ S.Some d → Leaves L B f d img × ((us : List ℕ) × (overflow_in L B f img ≡ d.key ∷ us))
     least-member {d} e =
         let m : Picked L B f img any d = rw e at least-picks in
         let xs = bag_in L B f true img in
@@ -119,18 +118,18 @@ module _ {L : Layout} {B f x : ℕ} {img : List ℕ} {a b : BackReading} (p : Re
               (rw (copies-added_all d.key xs ys) m.there) (λ z k. m.least z tt (rw (copies-added_all z xs ys) at k)),
         )
 
-  module _ {r : Leaving} (said : r ≡ pick_of (copy_in L B x a.way img) (copy_in L B x b.way img) a.members b.members) where
+  module _ {r : S.Option Departure} (said : r ≡ pick_of (copy_in L B x a.way img) (copy_in L B x b.way img) a.members b.members) where
     copy-picks : Picks L B f img (just x) r
     copy-picks = rw said (picked L B f img (just x) (both_read p q) a.members b.members p.many q.many (copy_in L B x a.way img) (copy_in L B x b.way img)
         (offer-copy L true B f x img a p) (offer-copy L false B f x img b q))
 
-    pub copy-nothing : r ≡ W.Nothing → has x (overflow_in L B f img) ≡ false
+    pub copy-nothing : r ≡ S.None → has x (overflow_in L B f img) ≡ false
     unfolding has
     copy-nothing e =
-        let n : Picks L B f img (just x) W.Nothing = rw e at copy-picks in
+        let n : Picks L B f img (just x) S.None = rw e at copy-picks in
         rw (copies-added_all x (bag_in L B f true img) (bag_in L B f false img), n x refl)
 
-    pub copy-member : {d : Departure} → r ≡ W.Member d → Leaves L B f d img × (d.key ≡ x) × (has x (overflow_in L B f img) ≡ true)
+    pub copy-member : {d : Departure} → r ≡ S.Some d → Leaves L B f d img × (d.key ≡ x) × (has x (overflow_in L B f img) ≡ true)
     unfolding has
     copy-member {d} e =
         let m : Picked L B f img (just x) d = rw e at copy-picks in

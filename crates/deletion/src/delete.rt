@@ -5,82 +5,59 @@ ghost use Rattle.crumbmap.specs.Layouts.{layout1};
 ghost use Rattle.answers.specs.Answers.{Deletes};
 ghost use Rattle.image.specs.Steps.ImageReads.{Placed};
 ghost use Rattle.tails.specs.Steps.Openings.{Opens};
-ghost use Rattle.deletion.specs.Steps.Deletions.{DeletesAt, roomless, Stands, Refills, without, refilled};
+ghost use Rattle.deletion.specs.Steps.Deletions.{DeletesAt, Stands, Refills, without, refilled};
 
 use crate::plan::plan;
 use crate::{DeletePlan, Departure, Refill};
-use answers::{ChangeResult, Refusal};
+use answers::Refusal;
 use image::Target;
 use image::back::remove_back_at;
 use image::front::{remove_front_at, swap_front_at};
 use image::place::target_of;
+use tails::Opened;
 use tails::open::open_image;
 use tails::tail::{TOP, write_tail};
-use tails::{Opened, Opening};
 
 // One copy less of a hash's fingerprint.
-pub fn delete(image: &mut [u8], hash: u64) -> ChangeResult
+pub fn delete(image: &mut [u8], hash: u64) -> Result<usize, Refusal>
     ensures { Deletes image.old hash result image.new }
 {
-    match open_image(image) {
-        Opening::Refused(why) => ChangeResult::Refused(why),
-        Opening::At(opened) => delete_opened(image, opened, hash),
-    }
+    let opened = open_image(image)?;
+    delete_opened(image, opened, hash)
 }
 
 // The same on an image that was opened: 13 before the body is read, and its tail once the body is written.
-fn delete_opened(image: &mut [u8], opened: Opened, hash: u64) -> ChangeResult
+fn delete_opened(image: &mut [u8], opened: Opened, hash: u64) -> Result<usize, Refusal>
     requires { Opens opened image.old }
     ensures { Deletes image.old hash result image.new }
 {
     if opened.changes == TOP {
-        return ChangeResult::Refused(Refusal::Spent);
+        return Err(Refusal::Spent);
     }
     let end = opened.end;
     let target = target_of(opened.size, hash);
     let room = 0 < opened.total;
-    match delete_at(&mut image[..end], target, room) {
-        ChangeResult::Refused(why) => ChangeResult::Refused(why),
-        ChangeResult::Accepted(answer) => {
-            write_tail(&mut image[end..], opened.total - 1, opened.changes + 1);
-            ChangeResult::Accepted(answer)
-        }
-    }
+    let answer = delete_at(&mut image[..end], target, room)?;
+    write_tail(&mut image[end..], opened.total - 1, opened.changes + 1);
+    Ok(answer)
 }
 
 // What was planned is written, where the total has room for one less: 12 is known before any byte is written.
-fn delete_at(image: &mut [u8], target: Target, room: bool) -> ChangeResult
+fn delete_at(image: &mut [u8], target: Target, room: bool) -> Result<usize, Refusal>
     requires { Placed layout1 target image.old }
     ensures { DeletesAt layout1 target room image.old result image.new }
 {
-    let planned = plan(image, target);
+    let planned = plan(image, target)?;
     if !room {
-        return without_room(planned);
+        return Err(Refusal::Miscounted);
     }
     match planned {
-        DeletePlan::Refused(why) => ChangeResult::Refused(why),
         DeletePlan::Leaves(slot) => {
             remove_front_at(image, target.front, slot, target.key);
-            ChangeResult::Accepted(0)
+            Ok(0)
         }
-        DeletePlan::Refills(refill) => ChangeResult::Accepted(refill_from(image, target, refill)),
-        DeletePlan::TakesOut(member) => ChangeResult::Accepted(take_out(
-            image,
-            target.size,
-            member,
-        )),
-    }
-}
-
-// Why a delete is refused for which the total has no room: its own refusal, else 12.
-fn without_room(planned: DeletePlan) -> ChangeResult
-    ensures { result ≡ roomless planned }
-{
-    match planned {
-        DeletePlan::Refused(why) => ChangeResult::Refused(why),
-        DeletePlan::Leaves(_) => ChangeResult::Refused(Refusal::Miscounted),
-        DeletePlan::Refills(_) => ChangeResult::Refused(Refusal::Miscounted),
-        DeletePlan::TakesOut(_) => ChangeResult::Refused(Refusal::Miscounted),
+        DeletePlan::Refills(refill) => Ok(refill_from(image, target, refill)),
+        DeletePlan::TakesOut(member) => Ok(take_out(image, target.size, member)),
     }
 }
 

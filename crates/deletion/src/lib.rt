@@ -6,7 +6,6 @@ pub mod behind;
 pub mod delete;
 pub mod plan;
 
-use answers::Refusal;
 use crumbmap::Overflow;
 
 // A member that leaves a backyard bucket: the bucket and the crumb that it carries there, its slot, and its key.
@@ -17,17 +16,9 @@ pub struct Departure {
     pub key: u32,
 }
 
-// The member that leaves First(f) or Second(f), or that none does.
-#[derive(Clone, Copy)]
-pub enum Leaving {
-    Member(Departure),
-    Nothing,
-}
-
-// What a delete does: it is refused, the copy at a slot in front leaves, a member from behind takes its room, or a copy behind leaves.
+// What a delete does that is not refused: the copy at a slot in front leaves, a member from behind takes its room, or a copy behind leaves.
 #[derive(Clone, Copy)]
 pub enum DeletePlan {
-    Refused(Refusal),
     Leaves(usize),
     Refills(Refill),
     TakesOut(Departure),

@@ -10,56 +10,50 @@ ghost use Rattle.image.specs.Steps.ImageReads.{Placed, FrontFull, Exceeds};
 ghost use Rattle.deletion.specs.Steps.Deletions.{Plans, FullWith, Elsewhere};
 
 use crate::behind::{copy, least};
-use crate::{DeletePlan, Leaving, Refill};
+use crate::{DeletePlan, Refill};
 use answers::Refusal;
 use crumbmap::Front;
 use crumbmap::layout::FRONT_SLOTS;
 use crumbmap::map::ways_of;
+use image::Target;
 use image::back::read_backyard;
 use image::front::{read_front_at, sound_front_at};
 use image::place::bucket;
-use image::{BackyardReading, Target};
-use minifilter::Reading;
-use search::Search;
 use search::find::{find_front, largest_front};
 
 // The copy stands in the front bucket, or not.
-pub fn plan(image: &[u8], target: Target) -> DeletePlan
+pub fn plan(image: &[u8], target: Target) -> Result<DeletePlan, Refusal>
     requires { Placed layout1 target image.now }
     ensures { Plans layout1 target image.now result }
 {
     let front = target.front;
     let key = target.key;
-    let Reading::Members(n, _) = sound_front_at(image, front) else {
-        return DeletePlan::Refused(Refusal::Unsound(front.0));
+    let reading = sound_front_at(image, front)?;
+    let Some(found) = find_front(bucket(image, front.0), key) else {
+        return plan_other(image, target, reading.members);
     };
-    let Search::At(slot, _) = find_front(bucket(image, front.0), key) else {
-        return plan_other(image, target, n);
-    };
-    if n < FRONT_SLOTS {
-        return DeletePlan::Leaves(slot);
+    if reading.members < FRONT_SLOTS {
+        return Ok(DeletePlan::Leaves(found.slot));
     }
-    plan_refill(image, target, slot)
+    plan_refill(image, target, found.slot)
 }
 
 // The copy at a slot leaves a full front bucket: the smallest member behind takes its room.
-fn plan_refill(image: &[u8], target: Target, slot: usize) -> DeletePlan
+fn plan_refill(image: &[u8], target: Target, slot: usize) -> Result<DeletePlan, Refusal>
     requires { FullWith layout1 target slot image.now }
     ensures { Plans layout1 target image.now result }
 {
     let size = target.size;
     let front = target.front;
     let key = target.key;
-    match read_backyard(image, size, front, ways_of(front, size), key) {
-        BackyardReading::Unsound(table) => DeletePlan::Refused(Refusal::Unsound(table)),
-        BackyardReading::Sound(a, b) => match least(image, size, a, b) {
-            Leaving::Nothing => DeletePlan::Leaves(slot),
-            Leaving::Member(member) => DeletePlan::Refills(Refill {
-                slot,
-                to: rank_without(image, front, key, member.key),
-                member,
-            }),
-        },
+    let (a, b) = read_backyard(image, size, front, ways_of(front, size), key)?;
+    match least(image, size, a, b) {
+        None => Ok(DeletePlan::Leaves(slot)),
+        Some(member) => Ok(DeletePlan::Refills(Refill {
+            slot,
+            to: rank_without(image, front, key, member.key),
+            member,
+        })),
     }
 }
 
@@ -72,42 +66,35 @@ fn rank_without(image: &[u8], front: Front, gone: u32, key: u32) -> usize
     if largest_front(bucket(image, front.0)) < key {
         return FRONT_SLOTS - 1;
     }
-    let Reading::Members(_, below) = read_front_at(image, front, key) else {
+    let Ok(reading) = read_front_at(image, front, key) else {
         return 0;
     };
     if gone < key {
-        return below - 1;
+        return reading.below - 1;
     }
-    below
+    reading.below
 }
 
 // No copy in front: one may stand behind a full front bucket, all smaller.
-fn plan_other(image: &[u8], target: Target, n: usize) -> DeletePlan
+fn plan_other(image: &[u8], target: Target, n: usize) -> Result<DeletePlan, Refusal>
     requires { Elsewhere layout1 target n image.now }
     ensures { Plans layout1 target image.now result }
 {
-    if n < FRONT_SLOTS {
-        return DeletePlan::Refused(Refusal::Absent);
-    }
-    if target.key <= largest_front(bucket(image, target.front.0)) {
-        return DeletePlan::Refused(Refusal::Absent);
+    if n < FRONT_SLOTS || target.key <= largest_front(bucket(image, target.front.0)) {
+        return Err(Refusal::Absent);
     }
     plan_behind(image, target)
 }
 
 // A copy leaves First(f) or Second(f).
-fn plan_behind(image: &[u8], target: Target) -> DeletePlan
+fn plan_behind(image: &[u8], target: Target) -> Result<DeletePlan, Refusal>
     requires { Placed layout1 target image.now × Exceeds layout1 target.front.0 target.key image.now }
     ensures { Plans layout1 target image.now result }
 {
     let size = target.size;
     let front = target.front;
     let key = target.key;
-    match read_backyard(image, size, front, ways_of(front, size), key) {
-        BackyardReading::Unsound(table) => DeletePlan::Refused(Refusal::Unsound(table)),
-        BackyardReading::Sound(a, b) => match copy(image, size, a, b, key) {
-            Leaving::Nothing => DeletePlan::Refused(Refusal::Absent),
-            Leaving::Member(member) => DeletePlan::TakesOut(member),
-        },
-    }
+    let (a, b) = read_backyard(image, size, front, ways_of(front, size), key)?;
+    let member = copy(image, size, a, b, key).ok_or(Refusal::Absent)?;
+    Ok(DeletePlan::TakesOut(member))
 }

@@ -1,19 +1,19 @@
 -- How a backyard bucket's bytes change where a member is put in or taken out, at any layout: `back-inserted`, `back-removed`. The last section is
 -- of layout 1.
-use mathlib.Core.Path.{◌≡◌, sym, ap, ◌∙◌}
+use mathlib.Core.Path.{◌≡◌, refl, sym, ap, ◌∙◌}
 use Prim.Native.Nat.{ℕ, suc, ◌+◌, ◌*◌, ◌/◌, ◌%◌, ◌^◌, ◌≤◌, ◌<◌}
 use mathlib.Core.List.{List, [], ◌∷◌, ◌++◌, append-nil}
 use native.Mathlib.Omega.{arith}
 use lib.ListN.{length, take, drop, get_or, length-drop, drop_of_length-le}
 use lib.Seq.{take_all, take_at, drop_at, length-take-le}
-use lib.Dec.{lit<}
+use lib.Dec.{lit<, lit≤}
 use Rattle.multiset.specs.Multisets.{added, removed, copies, below, Below}
 use Rattle.multiset.specs.Digits.{grouped, padded, highs, lows}
 use Rattle.crumbmap.specs.Layouts.{Layout, layout1, tags, keys, word_bytes}
 use Rattle.buckets.specs.Buckets.{Fits64, slot_end, slot_bytes, crumb_room, crumb_bytes, back_bytes, word_in, back_list, BackList}
 use Rattle.minifilter.specs.Steps.Readings.{SoundBack}
 use Rattle.shifts.specs.Steps.Shifts.{inserted, crumb_inserted, crumb_removed}
-use Rattle.edits.specs.Steps.Edits.{slot_inserted, slot_removed}
+use Rattle.edits.specs.Steps.Edits.{TagRoom1, slot_inserted, slot_removed}
 use Rattle.multiset.proofs.MultisetLaws.{below-copies, length-added, length_removed}
 use Rattle.multiset.proofs.RankLaws.{below_suc, below-le-length}
 use Rattle.multiset.proofs.SlotLaws.{added-at, removed-at, holds-from, holds-past, holds-copy}
@@ -141,6 +141,9 @@ module _ (L : Layout) (fits : Fits64 L) (b : List ℕ) (bytes : Below 256 b) (s 
         ∙ sym (back-slots L (removed y ys))
 
 -- ---- layout 1: crumbs in the last 12 bytes
+
+pub back-room : (b : List ℕ) (slot : ℕ) → length b ≡ 64 → slot < layout1.back_slots → TagRoom1 b 52 slot
+back-room b slot e h = record { long = e; inside = lit≤ tt; even = refl; wide = lit≤ tt; room = omega arith }
 
 pub crumbs-long : (b : List ℕ) → length b ≡ 64 → length (take (crumb_room layout1) (drop (slot_end layout1 layout1.back_slots) b)) ≡ crumb_room layout1
 crumbs-long b e = length-take-le 12 (drop 52 b) (simp length-drop (omega arith))

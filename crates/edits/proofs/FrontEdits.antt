@@ -4,6 +4,7 @@ use mathlib.Core.Path.{◌≡◌, refl, sym, ap, ◌∙◌}
 use Prim.Native.Nat.{ℕ, suc, ◌+◌, ◌/◌, ◌-◌, ◌^◌, ◌≤◌, ◌<◌}
 use mathlib.Core.List.{List, [], ◌++◌}
 use native.Mathlib.Omega.{arith}
+use lib.Dec.{lit≤}
 use lib.ListN.{length, take, drop, get_or, replicate, length-drop, drop_of_length-le}
 use lib.Seq.{drop_at, drop-drop, length-take-le}
 use Rattle.multiset.specs.Multisets.{added, removed, copies, below, Below}
@@ -13,7 +14,7 @@ use Rattle.buckets.specs.Words.{word_from}
 use Rattle.buckets.specs.Buckets.{Fits64, FrontList, slot_end, slot_bytes, front_bytes, word_in, front_list}
 use Rattle.words.specs.Steps.Wide.{word_bytes1}
 use Rattle.minifilter.specs.Steps.Readings.{SoundFront}
-use Rattle.edits.specs.Steps.Edits.{slot_inserted, slot_removed}
+use Rattle.edits.specs.Steps.Edits.{TagRoom1, slot_inserted, slot_removed}
 use Rattle.multiset.proofs.MultisetLaws.{below-copies, length-added, length_removed, below-removed}
 use Rattle.multiset.proofs.RankLaws.{below_suc}
 use Rattle.multiset.proofs.OrderLaws.{ascending-removed}
@@ -94,6 +95,9 @@ module _ (L : Layout) (fits : Fits64 L) (b : List ℕ) (bytes : Below 256 b) (s 
         )
 
 -- ---- layout 1: a word of 8 bytes
+
+pub front-room : (b : List ℕ) (slot : ℕ) → length b ≡ 64 → slot < layout1.front_slots → TagRoom1 b 64 slot
+front-room b slot e h = record { long = e; inside = lit≤ tt; even = refl; wide = lit≤ tt; room = omega arith }
 
 -- a stretch from the word to `end` and the word put back into the bytes
 pub word-put : (b ys : List ℕ) (end w : ℕ) → word_bytes1 ≤ length b → word_bytes1 ≤ end

@@ -1,26 +1,24 @@
 -- The bytes of a front bucket's keys, key by key: the word as each gets its zero, behind those before it, and the tags as each gets its bytes.
 -- Main results: `word_next`, `front_bytes-written`, and of tags of two bytes (layout 1) `tags-next`, `tags-all`.
 use mathlib.Core.Path.{◌≡◌, refl, sym, ap, ◌∙◌}
-use Prim.Native.Nat.{ℕ, suc, ◌+◌, ◌*◌, ◌/◌, ◌%◌, ◌^◌, ◌≤◌, ◌<◌}
-use mathlib.Core.List.{List, [], ◌∷◌, ◌++◌, append-nil}
+use Prim.Native.Nat.{ℕ, zero, suc, ◌+◌, ◌-◌, ◌*◌, ◌/◌, ◌%◌, ◌^◌, ◌≤◌, ◌<◌}
+use mathlib.Core.List.{List, [], ◌∷◌, ◌++◌, append-nil, append_assoc}
 use native.Mathlib.Numerals.{add-one}
 use native.Mathlib.Omega.{arith}
-use lib.ListN.{length, take, drop, set, get_or, drop_of_length-le, get_or-eq_default}
-use lib.Seq.{take_all, take-suc, take-take, length-take-le}
-use lib.Dec.{lit<}
+use lib.ListN.{length, take, drop, get_or, replicate, length-append, length-drop, drop_of_length-le, get_or-map}
+use lib.Seq.{take_all, take_at, take-suc, take-take, length-take-le}
 use Rattle.multiset.specs.Digits.{digits, spread, padded, highs, lows}
 use Rattle.crumbmap.specs.Layouts.{Layout, layout1, tags, word_bytes}
 use Rattle.buckets.specs.Words.{word_from, opened_at}
 use Rattle.buckets.specs.Buckets.{slot_end, tag_part, slot_bytes, front_bytes, FrontList}
 use Rattle.multiset.proofs.RankLaws.{below-le-length}
-use Rattle.multiset.proofs.DigitLaws.{length-padded, length-highs, length-lows}
+use Rattle.multiset.proofs.DigitLaws.{length_digits, length-highs, length-lows}
 use Rattle.buckets.proofs.WordLaws.{Run, run_take, run_at, run-rank, word_lt}
 use Rattle.buckets.proofs.BitLaws.{word-opened}
-use Rattle.buckets.proofs.HighLaws.{get_d-highs, padded-low}
+use Rattle.buckets.proofs.HighLaws.{get_d-highs}
 use Rattle.buckets.proofs.PieceLaws.{spread-append}
 use Rattle.buckets.proofs.SlotBytes.{length-slot_bytes}
 use Rattle.buckets.proofs.KeyBytes.{keys-run, front-keys, front_rest, front-slots}
-use Rattle.shifts.proofs.TagLaws.{stored-take, tag-digits}
 
 -- ---- the word
 
@@ -75,44 +73,45 @@ front_bytes-written L whole b xs ts w long f e q =
 
 -- ---- layout 1: tags of two bytes
 
--- the tags of all slots
-abbrev pub all_tags : List ℕ → List ℕ
-all_tags xs = padded layout1.front_slots (lows (tags layout1) xs)
-
-pub length-all_tags : (xs : List ℕ) → length xs ≤ layout1.front_slots → length (all_tags xs) ≡ layout1.front_slots
-length-all_tags xs h = length-padded layout1.front_slots (lows (tags layout1) xs) (rw (length-lows (tags layout1) xs) h)
-
--- what s holds in front of a slot
+-- what s holds in front of a slot: the tags of the keys before it
 abbrev pub TagsTo : List ℕ → ℕ → List ℕ → Type 0
-TagsTo xs slot s = take (slot * 2) s ≡ spread 256 2 (take slot (all_tags xs))
+TagsTo xs slot s = take (slot * 2) s ≡ spread 256 2 (take slot (lows (tags layout1) xs))
 
-pub tags-none : (xs s : List ℕ) → TagsTo xs 0 s
+pub tags-next : (xs s bytes : List ℕ) (slot : ℕ) → slot < length xs → slot * 2 + 2 ≤ length s → TagsTo xs slot s
+    → bytes ≡ digits 256 2 (get_or xs slot 0 % tags layout1) → TagsTo xs (slot + 1) (take (slot * 2) s ++ (bytes ++ drop 2 (drop (slot * 2) s)))
 unfolding spread
-tags-none xs s = refl
-
-tags-on : (xs s : List ℕ) (slot a b : ℕ) → length xs ≤ layout1.front_slots → slot < layout1.front_slots → length s ≡ 56 → TagsTo xs slot s
-    → digits 256 2 (get_or xs slot 0 % tags layout1) ≡ a ∷ b ∷ [] → TagsTo xs (slot + 1) (set (set s (slot * 2) a) (slot * 2 + 1) b)
-unfolding spread
-tags-on xs s slot a b room h long t e =
-    let ts : List ℕ = all_tags xs in
-    let two : (slot + 1) * 2 ≡ slot * 2 + 2 = omega arith in
-    rw (two, stored-take s (slot * 2) a b (omega arith), t, add-one slot, take-suc ts slot 0 (omega (arith, length-all_tags xs room)))
+tags-next xs s bytes slot h room t e =
+    let ts : List ℕ = lows (tags layout1) xs in
+    let tag : ℕ = get_or xs slot 0 % tags layout1 in
+    let at : ℕ = slot * 2 in
+    let two : (slot + 1) * 2 ≡ at + 2 = omega arith in
+    let here : get_or ts slot 0 ≡ tag = get_or-map (λ (x : ℕ). x % tags layout1) xs slot 0 in
+    let long : length (take at s ++ bytes) ≡ at + 2 =
+    omega (arith, length-append (take at s) bytes, length-take-le at s (omega arith), ap length e, length_digits 256 2 tag) in
+    let front = rw (append_assoc (take at s) bytes (drop 2 (drop at s))) at (take_at (take at s ++ bytes) (drop 2 (drop at s)) (at + 2) long) in
+    rw (two, front, t, add-one slot, take-suc ts slot 0 (omega (arith, length-lows (tags layout1) xs)))
     (sym (spread-append 256 2 (take slot ts) (get_or ts slot 0 ∷ [])
-    ∙ ap (λ (l : List ℕ). spread 256 2 (take slot ts) ++ l) (append-nil (digits 256 2 (get_or ts slot 0))
-    ∙ ap (digits 256 2) (padded-low (tags layout1) layout1.front_slots slot xs) ∙ e)))
+    ∙ ap (λ (l : List ℕ). spread 256 2 (take slot ts) ++ l) (append-nil (digits 256 2 (get_or ts slot 0)) ∙ ap (digits 256 2) here ∙ sym e)))
 
-module _ (xs s : List ℕ) (slot : ℕ) (room : length xs ≤ layout1.front_slots) (h : slot < layout1.front_slots) (long : length s ≡ 56) (t : TagsTo xs slot s) where
-  pub tags-next : TagsTo xs (slot + 1) (set (set s (slot * 2) (get_or xs slot 0 % tags layout1 % 256)) (slot * 2 + 1) (get_or xs slot 0 % tags layout1 / 256))
-  tags-next = tags-on xs s slot (get_or xs slot 0 % tags layout1 % 256) (get_or xs slot 0 % tags layout1 / 256) room h long t
-      (tag-digits (get_or xs slot 0 % tags layout1) (omega arith))
+spread-zeros : (n : ℕ) → spread 256 2 (replicate {A = ℕ} n 0) ≡ replicate {A = ℕ} (n * 2) 0
+unfolding spread digits
+spread-zeros zero = refl
+spread-zeros (suc n) = let e : suc n * 2 ≡ suc (suc (n * 2)) = omega arith in rw e (ap (λ (l : List ℕ). 0 ∷ 0 ∷ l) (spread-zeros n))
 
-  pub tags-behind : length xs ≤ slot → TagsTo xs (slot + 1) (set (set s (slot * 2) 0) (slot * 2 + 1) 0)
-  tags-behind over =
-      let none : get_or xs slot 0 ≡ 0 = get_or-eq_default xs 0 {n = slot} over in
-      tags-on xs s slot 0 0 room h long t (rw none (tag-digits 0 (lit< tt)))
-
-pub tags-all : (xs s : List ℕ) (slot : ℕ) → length xs ≤ layout1.front_slots → length s ≡ 56 → slot ≡ layout1.front_slots → TagsTo xs slot s
-    → s ≡ tag_part layout1 layout1.front_slots xs
-tags-all xs s slot room long end t =
-    let ts : List ℕ = all_tags xs in
-    sym (take_all (slot * 2) s (omega arith)) ∙ t ∙ ap (spread 256 2) (take_all slot ts (omega (arith, length-all_tags xs room)))
+-- the tags of all keys, and zeros put behind them
+pub tags-all : (xs s zeros : List ℕ) → length xs ≤ layout1.front_slots → length s ≡ 56 → TagsTo xs (length xs) s → let end = length xs * 2 in
+    zeros ≡ replicate {A = ℕ} (length (take (length s - end) (drop end s))) 0
+    → take end s ++ (zeros ++ drop (length s - end) (drop end s)) ≡ tag_part layout1 layout1.front_slots xs
+unfolding padded
+tags-all xs s zeros room long t e =
+    let end : ℕ = length xs * 2 in
+    let ts : List ℕ = lows (tags layout1) xs in
+    let free : ℕ = layout1.front_slots - length ts in
+    let keys : length ts ≡ length xs = length-lows (tags layout1) xs in
+    let behind : length s - end ≡ length (drop end s) = sym (length-drop end s) in
+    let two : length (drop end s) ≡ free * 2 = omega (arith, length-drop end s) in
+    let all : take (length s - end) (drop end s) ≡ drop end s = take_all (length s - end) (drop end s) (omega arith) in
+    let none : drop (length s - end) (drop end s) ≡ [] = drop_of_length-le (drop end s) {i = length s - end} (omega arith) in
+    let filled : zeros ≡ spread 256 2 (replicate {A = ℕ} free 0) =
+    e ∙ ap (λ (l : List ℕ). replicate {A = ℕ} (length l) 0) all ∙ ap (λ (n : ℕ). replicate {A = ℕ} n 0) two ∙ sym (spread-zeros free) in
+    rw (none, append-nil zeros, t, take_all (length xs) ts (omega arith), filled) (sym (spread-append 256 2 ts (replicate {A = ℕ} free 0)))

@@ -1,6 +1,6 @@
 // Insert and remove of one member in place, and the empty bucket.
 
-ghost use Rattle.std.specs.Prelude.{◌≡◌, ◌<◌, [], length, get_or, replicate};
+ghost use Rattle.std.specs.Prelude.{◌≡◌, ◌<◌, [], length, get_or};
 ghost use Rattle.multiset.specs.Multisets.{added, removed};
 ghost use Rattle.crumbmap.specs.Layouts.{layout1};
 ghost use Rattle.buckets.specs.Buckets.{front_bytes, back_bytes, front_list, back_list};
@@ -77,22 +77,11 @@ pub fn remove_back(b: &mut [u8], slot: usize, member: u32)
     remove_crumb(&mut b[slots::CRUMBS_AT..64], slot);
 }
 
-// Every byte becomes `byte`.
-pub fn fill(s: &mut [u8], byte: u8)
-    ensures { s.new ≡ replicate (length s.old) byte }
-{
-    let mut i = 0;
-    while i < s.len() {
-        s[i] = byte;
-        i += 1;
-    }
-}
-
 // "Every bucket empty (word 2^36 − 1, else 0)."
 pub fn clear(b: &mut [u8])
     requires { length b.old ≡ 64 }
     ensures { b.new ≡ front_bytes layout1 [] }
 {
-    fill(&mut b[slots::TAGS_AT..64], 0);
+    b[slots::TAGS_AT..64].fill(0);
     word::put_word(b, word::EMPTY);
 }

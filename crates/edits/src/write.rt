@@ -6,7 +6,7 @@ ghost use Rattle.crumbmap.specs.Layouts.{layout1, tags};
 ghost use Rattle.buckets.specs.Words.{word_from};
 ghost use Rattle.buckets.specs.Buckets.{tag_part, front_bytes, FrontList};
 
-use crumbmap::layout::{FRONT_SLOTS, TAGS};
+use crumbmap::layout::TAGS;
 use minifilter::slots;
 use words::word;
 
@@ -15,18 +15,11 @@ fn put_tags(s: &mut [u8], keys: &[u32])
     requires { (length s.old ≡ layout1.front_slots * layout1.tag_bytes) × (length keys.now ≤ layout1.front_slots) }
     ensures { s.new ≡ tag_part layout1 layout1.front_slots keys.now }
 {
-    let mut slot: usize = 0;
-    while slot < keys.len() {
-        let tag = keys[slot] % TAGS;
-        s[slot * 2] = (tag % 256) as u8;
-        s[slot * 2 + 1] = (tag / 256) as u8;
-        slot += 1;
+    for (slot, &key) in keys.iter().enumerate() {
+        let at = slot * 2;
+        s[at..at + 2].copy_from_slice(&((key % TAGS) as u16).to_le_bytes());
     }
-    while slot < FRONT_SLOTS {
-        s[slot * 2] = 0;
-        s[slot * 2 + 1] = 0;
-        slot += 1;
-    }
+    s[keys.len() * 2..].fill(0);
 }
 
 // The word of the keys: a zero is put in for each, behind those before it.
@@ -35,10 +28,8 @@ fn word_for(keys: &[u32]) -> u64
     ensures { result ≡ word_from layout1.minis 0 (highs (tags layout1) keys.now) }
 {
     let mut word = word::EMPTY;
-    let mut slot: usize = 0;
-    while slot < keys.len() {
-        word = word::open_bit(word, keys[slot] / TAGS + (slot as u32));
-        slot += 1;
+    for (slot, &key) in keys.iter().enumerate() {
+        word = word::open_bit(word, key / TAGS + (slot as u32));
     }
     word
 }

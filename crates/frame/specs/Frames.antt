@@ -1,9 +1,9 @@
 -- "A frame is 18 upper-case hex digits: operation (01 insert, 02 delete, 03 ask, 04 count, 05 list), then the hash (zeros for 05)."
 -- What a line prints, and the image after it, by the plain machine.
 use Rattle.std.specs.Prelude.{◌≡◌, ℕ, ◌+◌, ◌*◌, Bool, cond, ◌&&◌, List, [], ◌++◌, length, take, drop, eqb, leb}
-use Rattle.std.proofs.Math.Option.{Option, none, some, bind}
+use Rattle.std.specs.Prelude as S
+use Rattle.std.specs.Option.{option_and_then}
 use Rattle.crumbmap.specs.Layouts.{known}
-use Rattle.buckets.specs.Buckets.{given}
 use Rattle.machine.specs.Results.{Result, accepted, refused, and_then}
 use Rattle.machine.specs.Machine.{Asked, Counted, Place, nowhere, front, first, second}
 use Rattle.machine.specs.Pages.{Run}
@@ -12,31 +12,26 @@ use Rattle.form.specs.Calls.{insert_of, delete_of, ask_of, count_of, page_of, ta
 use Rattle.answers.specs.Pairs.{said_of, answer_value}
 use Rattle.text.specs.Texts.{unhex, over}
 use Rattle.frame.specs.declared.Frame.{Frame}
-use Rattle.frame.specs.declared.Frame.TheVariants.{Insert, Delete, Ask, Count, List as Listing, Malformed}
-use Rattle.frame.specs.declared.Printed.{Printed}
-use Rattle.frame.specs.declared.Printed.TheVariants.{Text, Unfit}
-use Rattle.text.specs.Lines.{malformed, line, told, entry_lines}
+use Rattle.frame.specs.declared.Frame.TheVariants.{Insert, Delete, Ask, Count, List as Listing}
+use Rattle.text.specs.Lines.{digits_of, malformed, line, told, entry_lines}
 
 -- ---- frames
 
--- the frame of an operation and a hash
-unfoldable pub operation : ℕ → ℕ → Frame
+-- the frame of an operation and a hash, none where there is none of these
+unfoldable pub operation : ℕ → ℕ → S.Option Frame
 operation n k =
-    cond (eqb n 1) (Insert k)
-    (cond (eqb n 2) (Delete k)
-    (cond (eqb n 3) (Ask k)
-    (cond (eqb n 4) (Count k)
-    (cond (eqb n 5) (cond (eqb k 0) Listing Malformed) Malformed))))
+    cond (eqb n 1) (S.Some (Insert k))
+    (cond (eqb n 2) (S.Some (Delete k))
+    (cond (eqb n 3) (S.Some (Ask k))
+    (cond (eqb n 4) (S.Some (Count k))
+    (cond (eqb n 5) (cond (eqb k 0) (S.Some Listing) S.None) S.None))))
 
-abbrev pub or_malformed : Option Frame → Frame
-or_malformed none = Malformed
-or_malformed (some f) = f
-
--- the frame of a line, without its newline
-unfoldable pub frame_of : List ℕ → Frame
+-- the frame of a line, without its newline; none where the line is malformed
+unfoldable pub frame_of : List ℕ → S.Option Frame
 frame_of line =
-    or_malformed (given (eqb (length line) 18)
-    (bind (unhex 0 (take 2 line)) (λ n. bind (unhex 0 (drop 2 line)) (λ k. some (operation n k)))))
+    cond (eqb (length line) 18)
+    (option_and_then (λ n. option_and_then (λ k. operation n k) (digits_of (unhex 0 (drop 2 line)))) (digits_of (unhex 0 (take 2 line))))
+    S.None
 
 -- ---- the values that lines tell
 
@@ -73,26 +68,26 @@ room = 1728
 unfoldable pub list_of : List ℕ → Result Run
 list_of img = and_then (tail_of known img) λ t. page_of known img 0 t.changes room
 
--- ---- what a frame prints, and the image after it
+-- ---- what a frame prints, and the image after it; a malformed line is none
 
-unfoldable pub text_of : Frame → List ℕ → List ℕ
-text_of (Insert k) img = told 1 (said_of answer_value (insert_of known img k))
-text_of (Delete k) img = told 2 (said_of answer_value (delete_of known img k))
-text_of (Ask k) img = told 3 (said_of ask_value (ask_of known img k))
-text_of (Count k) img = told 4 (said_of copies_value (count_of known img k))
-text_of Listing img = list_text (list_of img)
-text_of Malformed img = malformed
+unfoldable pub text_of : S.Option Frame → List ℕ → List ℕ
+text_of (S.Some (Insert k)) img = told 1 (said_of answer_value (insert_of known img k))
+text_of (S.Some (Delete k)) img = told 2 (said_of answer_value (delete_of known img k))
+text_of (S.Some (Ask k)) img = told 3 (said_of ask_value (ask_of known img k))
+text_of (S.Some (Count k)) img = told 4 (said_of copies_value (count_of known img k))
+text_of (S.Some Listing) img = list_text (list_of img)
+text_of S.None img = malformed
 
-unfoldable pub image_after : Frame → List ℕ → List ℕ
-image_after (Insert k) img = image_of (insert_of known img k) img
-image_after (Delete k) img = image_of (delete_of known img k) img
-image_after (Ask k) img = img
-image_after (Count k) img = img
-image_after Listing img = img
-image_after Malformed img = img
+unfoldable pub image_after : S.Option Frame → List ℕ → List ℕ
+image_after (S.Some (Insert k)) img = image_of (insert_of known img k) img
+image_after (S.Some (Delete k)) img = image_of (delete_of known img k) img
+image_after (S.Some (Ask k)) img = img
+image_after (S.Some (Count k)) img = img
+image_after (S.Some Listing) img = img
+image_after S.None img = img
 
 -- a frame is performed on the image `old`: `n` bytes of text in the output, and the image `new` after it
-pub record Performs (f : Frame) (old out : List ℕ) (n : ℕ) (new printed : List ℕ) : Type 0 where
+pub record Performs (f : S.Option Frame) (old out : List ℕ) (n : ℕ) (new printed : List ℕ) : Type 0 where
   pub count : n ≡ length (text_of f old)
   pub text : printed ≡ over 0 (text_of f old) out
   pub image : new ≡ image_after f old
@@ -102,7 +97,7 @@ unfoldable pub fit : List ℕ → List ℕ → Bool
 fit img out = eqb (length img) 2240 && leb 29397 (length out)
 
 -- a line is answered on the image `old`; where image or output are unfit, nothing is written
-pub record Answers (input old out : List ℕ) (r : Printed) (new printed : List ℕ) : Type 0 where
-  pub count : r ≡ cond (fit old out) (Text (length (text_of (frame_of input) old))) Unfit
+pub record Answers (input old out : List ℕ) (r : S.Option ℕ) (new printed : List ℕ) : Type 0 where
+  pub count : r ≡ cond (fit old out) (S.Some (length (text_of (frame_of input) old))) S.None
   pub text : printed ≡ cond (fit old out) (over 0 (text_of (frame_of input) old) out) out
   pub image : new ≡ cond (fit old out) (image_after (frame_of input) old) old

@@ -13,12 +13,4 @@ pub enum Frame {
     Ask(u64),
     Count(u64),
     List,
-    Malformed,
-}
-
-// How many bytes of text stand in the output, or that image or output have not the length they need.
-#[derive(Clone, Copy)]
-pub enum Printed {
-    Text(usize),
-    Unfit,
 }

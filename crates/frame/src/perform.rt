@@ -6,54 +6,54 @@ ghost use Rattle.answers.specs.Pairs.{said_of};
 ghost use Rattle.text.specs.Texts.{over};
 ghost use Rattle.frame.specs.Frames.{place_number, ask_value, copies_value, list_text, list_of, room, Performs, Answers};
 
+use crate::Frame;
 use crate::parse::parse;
-use crate::{Frame, Printed};
-use answers::pairs::{Said, changed, refused};
-use answers::{AskResult, CountResult, PageResult, Place, TailResult};
+use answers::pairs::Said;
+use answers::{Asked, Counted, Paged, Place, Refusal};
 use breadcrumb::{ask, count, delete, insert, page, tail};
 use text::print::{put_entries, put_line, put_malformed};
 
-// A line of input, without its newline, on an image with B = 3: its answer stands at the start of `out`.
-pub fn frame(image: &mut [u8], line: &[u8], out: &mut [u8]) -> Printed
+// A line of input, without its newline, on an image with B = 3: its answer stands at the start of `out`. How many bytes it has, none where image or
+// output have not the length that they need.
+#[tactic(auto, unfolding(crate::specs::Frames::fit))]
+pub fn frame(image: &mut [u8], line: &[u8], out: &mut [u8]) -> Option<usize>
     ensures { Answers line.now image.old out.old result image.new out.new }
 {
     if image.len() != 2240 {
-        return Printed::Unfit;
+        return None;
     }
     if out.len() < 29397 {
-        return Printed::Unfit;
+        return None;
     }
-    Printed::Text(perform(image, parse(line), out))
+    Some(perform(image, parse(line), out))
 }
 
-// A frame is performed and answered; how many bytes the answer has.
-fn perform(image: &mut [u8], frame: Frame, out: &mut [u8]) -> usize
+// A frame is performed and answered, or a malformed line; how many bytes the answer has.
+#[tactic(auto, using(crate::proofs::PerformLaws::printed), unfolding(crate::specs::Frames::text_of, crate::specs::Frames::image_after))]
+fn perform(image: &mut [u8], frame: Option<Frame>, out: &mut [u8]) -> usize
     requires { 29397 ≤ length out.old }
     ensures { Performs frame image.old out.old result image.new out.new }
 {
     match frame {
-        Frame::Insert(hash) => put_line(out, 1, changed(insert(image, hash))),
-        Frame::Delete(hash) => put_line(out, 2, changed(delete(image, hash))),
-        Frame::Ask(hash) => put_line(out, 3, asked(ask(image, hash))),
-        Frame::Count(hash) => put_line(out, 4, counted(count(image, hash))),
-        Frame::List => list(image, out),
-        Frame::Malformed => put_malformed(out),
+        Some(Frame::Insert(hash)) => put_line(out, 1, Said::from(insert(image, hash))),
+        Some(Frame::Delete(hash)) => put_line(out, 2, Said::from(delete(image, hash))),
+        Some(Frame::Ask(hash)) => put_line(out, 3, asked(ask(image, hash))),
+        Some(Frame::Count(hash)) => put_line(out, 4, counted(count(image, hash))),
+        Some(Frame::List) => list(image, out),
+        None => put_malformed(out),
     }
 }
 
 // "For ask, reads + 16 × place (0 none, 1 front, 2 first, 3 second)."
-fn asked(given: AskResult) -> Said
+fn asked(given: Result<Asked, Refusal>) -> Said
     ensures { result ≡ said_of ask_value (asked_of given) }
 {
     match given {
-        AskResult::Accepted(found) => {
-            let place = found.place;
-            Said {
-                number: 0,
-                value: (found.reads as u64) + 16 * place_number(place),
-            }
-        }
-        AskResult::Refused(why) => refused(why),
+        Ok(found) => Said {
+            number: 0,
+            value: (found.reads as u64) + 16 * place_number(found.place),
+        },
+        Err(why) => Said::from(why),
     }
 }
 
@@ -69,15 +69,15 @@ fn place_number(place: Place) -> u64
 }
 
 // "For count, its copies."
-fn counted(given: CountResult) -> Said
+fn counted(given: Result<Counted, Refusal>) -> Said
     ensures { result ≡ said_of copies_value (counted_of given) }
 {
     match given {
-        CountResult::Accepted(count) => Said {
+        Ok(count) => Said {
             number: 0,
             value: count.copies as u64,
         },
-        CountResult::Refused(why) => refused(why),
+        Err(why) => Said::from(why),
     }
 }
 
@@ -92,35 +92,33 @@ fn list(image: &[u8], out: &mut [u8]) -> usize
 }
 
 // A list by way of a slice with room for every member.
+#[tactic(auto, using(crate::proofs::PerformLaws::printed))]
 fn list_by(image: &[u8], entries: &mut [u64], out: &mut [u8]) -> usize
     requires { (length entries.old ≡ room) × (29397 ≤ length out.old) }
     ensures value { result ≡ length (list_text (list_of image.now)) }
     ensures out_after { out.new ≡ over 0 (list_text (list_of image.now)) out.old }
 {
     match page_whole(image, entries) {
-        PageResult::Accepted(n, _) => {
-            put_line(
-                out,
-                5,
-                Said {
-                    number: 0,
-                    value: n as u64,
-                },
-            );
-            put_entries(out, &entries[0..n]);
+        Ok(paged) => {
+            let n = paged.entries;
+            let said = Said {
+                number: 0,
+                value: n as u64,
+            };
+            put_line(out, 5, said);
+            put_entries(out, &entries[..n]);
             21 + 17 * n
         }
-        PageResult::Refused(why) => put_line(out, 5, refused(why)),
+        Err(why) => put_line(out, 5, Said::from(why)),
     }
 }
 
 // The page of a list, whose walk begins with the change count that the tail tells.
-fn page_whole(image: &[u8], entries: &mut [u64]) -> PageResult
+#[tactic(auto, unfolding(crate::specs::Frames::list_of))]
+fn page_whole(image: &[u8], entries: &mut [u64]) -> Result<Paged, Refusal>
     requires { length entries.old ≡ room }
     ensures { Writes (list_of image.now) entries.old result entries.new }
 {
-    match tail(image) {
-        TailResult::Accepted(told) => page(image, 0, told.changes, entries),
-        TailResult::Refused(why) => PageResult::Refused(why),
-    }
+    let told = tail(image)?;
+    page(image, 0, told.changes, entries)
 }

@@ -37,3 +37,6 @@ came-more {img} {held} {img'} {held'} buffer n h c t =
 -- the image that the program leaves is the one that its input leaves
 pub ran-whole : {img : List ℕ} → (r : Ran img) → img ≡ image_of_input (joined r.came.pieces)
 ran-whole r = (whole r.came.run r.ends).1
+
+-- what is known of what was taken in
+pub ruleset taken = (took-none, used-within, came-none)

@@ -19,15 +19,14 @@ fn main(rt: HostRuntime) {
     run(rt.stdin(), rt.stdout(), &mut image, &mut line, &mut out);
 }
 
-// Reads to the end of the input. A proved loop has to end, and nothing says that the input does: it counts down from a number that no run uses up.
+// Reads to the end of the input. A proved loop has to end, and nothing says that the input does: it has more turns than any run uses up.
+#[tactic(auto, using(crate::proofs::RunLaws::taken))]
 fn run(mut input: Stdin, output: Stdout, image: &mut [u8], line: &mut [u8], out: &mut [u8])
     requires { Room image.old line.old 0 out.old × (image.old ≡ start_image) }
     ensures { Ran image.new }
 {
     let mut held = 0;
-    let mut turns = u64::MAX;
-    while turns > 0 {
-        turns -= 1;
+    for _ in 0..u64::MAX {
         let mut buffer = [0u8; 4096];
         let n = read_some(&mut input, &mut buffer);
         if n == 0 {
@@ -43,13 +42,11 @@ fn run(mut input: Stdin, output: Stdout, image: &mut [u8], line: &mut [u8], out:
 fn read_some(input: &mut Stdin, buffer: &mut [u8]) -> usize
     ensures { result ≤ length buffer.new }
 {
-    match input.read(buffer) {
-        Ok(n) => n,
-        Err(_) => 0,
-    }
+    input.read(buffer).unwrap_or(0)
 }
 
 // The first `n` bytes of a buffer are taken in step by step, and what each step answers is printed; how many bytes of the next line are held then.
+#[tactic(auto, using(crate::proofs::RunLaws::taken))]
 fn take_in(
     output: Stdout,
     image: &mut [u8],

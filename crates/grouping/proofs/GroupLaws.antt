@@ -10,19 +10,18 @@ use Rattle.crumbmap.specs.Fingerprints.{front_of, key_of}
 use Rattle.crumbmap.specs.CrumbMap.{first_bucket, second_bucket, first_crumb, second_crumb, bucket_of}
 use Rattle.crumbmap.proofs.CrumbMapLaws.{bucket_of-lt}
 use Rattle.crumbmap.proofs.FingerprintLaws.{front_of-lt}
-use Rattle.buckets.specs.Buckets.{Fits64, front_members, back_members}
-use Rattle.minifilter.specs.Steps.Readings.{reading_of}
+use Rattle.buckets.specs.Buckets.{Fits64}
 use Rattle.machine.specs.Results.{Result, accepted, refused, and_then}
-use Rattle.machine.specs.Images.{size_of, bucket_at, front_at, back_at, in_front, in_back}
+use Rattle.machine.specs.Images.{size_of, back_at, in_front, in_back}
 use Rattle.machine.specs.Machine.{Asked, reads_behind, ask_second, ask_at}
-use Rattle.machine.proofs.AcceptedLaws.{was-sound, same_answer, never-refused}
+use Rattle.machine.proofs.AcceptedLaws.{same_answer, never-refused}
 use Rattle.machine.proofs.ChoiceLaws.{reads-most}
 use Rattle.machine.proofs.RowLaws.{Ends, ask-ends, of-search, of_test, asked-some, ask-refused}
 use Rattle.form.specs.Tails.{body}
 use Rattle.form.proofs.TailLaws.{length-body}
-use Rattle.image.specs.Steps.ImageReads.{FrontIn, BackIn, FrontRead, BackRead, FrontSays, BackSays}
+use Rattle.image.specs.Steps.ImageReads.{FrontIn, FrontRead, BackRead}
 use Rattle.image.proofs.ImageReadLaws.{whole_of, front-in, back_in}
-use Rattle.image.proofs.PartLaws.{front-says, back-says}
+use Rattle.image.proofs.PartLaws.{front_read, back_read}
 use Rattle.grouping.specs.Steps.Grouping.{Bytes, held, reach_at, bound_at, GroupRead, sharing, descended, passed, advanced, tested_at, tested, Live, Known, Extends, started_at}
 use Rattle.grouping.specs.declared.State.{State}
 
@@ -36,23 +35,6 @@ body_bytes img bytes i = go (ltb i (length img - 64)) refl
     go false h =
         rw (get_or-eq_default (take (length img - 64) img) 0 {n = i} (omega (arith, length-body img, ltb-false i (length img - 64) h))) (omega arith)
 
--- ---- a bucket that was accepted is sound
-
-module _ {L : Layout} (fits : Fits64 L) {img : List ℕ} (bytes : Bytes img) where
-  pub front_read : {B f : ℕ} {xs : List ℕ} → FrontIn B f img → front_at L f img ≡ accepted xs → FrontRead L f img
-  unfolding front_at
-  front_read {f = f} {xs} h e =
-      let sound = was-sound f (front_members L (bucket_at f img)) xs e in
-      let says : FrontSays L f 0 img (reading_of 0 (some xs)) = front-says L fits f 0 img (front-in h) bytes {r = reading_of 0 (some xs)} (rw sound) in
-      says.0
-
-  pub back_read : {B j : ℕ} {ys : List ℕ} → BackIn B j img → back_at L B j img ≡ accepted ys → BackRead L B j img
-  unfolding back_at
-  back_read {B} {j} {ys} h e =
-      let sound = was-sound (fronts B + j) (back_members L B j (bucket_at (fronts B + j) img)) ys e in
-      let says : BackSays L B j 0 img (reading_of 0 (some ys)) = back-says L fits B j 0 img h bytes {r = reading_of 0 (some ys)} (rw sound) in
-      says.0
-
 -- where none is read nothing is asked
 pub none_read : {L : Layout} {B f : ℕ} {img : List ℕ} → GroupRead L B f img 0
 none_read = record { front = λ h. absurd (omega arith); first = λ h. absurd (omega arith); second = λ h. absurd (omega arith) }
@@ -63,12 +45,12 @@ module _ {L : Layout} (fits : Fits64 L) {B f : ℕ} {img : List ℕ} (bytes : By
   asked-read x e = let r = rw e at ends in (r.0, r.1, omega (arith, r.2, reads-most B f))
     where
       back : (t : Bool) {ys : List ℕ} → back_at L B (bucket_of t B f) img ≡ accepted ys → BackRead L B (bucket_of t B f) img
-      back t e = back_read fits bytes (back_in within.whole (bucket_of-lt t B f within.front)) e
+      back t e = back_read L fits B (bucket_of t B f) img (back_in within.whole (bucket_of-lt t B f within.front)) bytes e
 
       ends : Ends B f (GroupRead L B f img) (ask_at L B f x img)
       ends =
           ask-ends L B f x img (GroupRead L B f img)
-          (λ xs e. record { front = λ h. front_read fits bytes within e; first = λ h. absurd (omega arith); second = λ h. absurd (omega arith) })
+          (λ xs e. record { front = λ h. front_read L fits f img (front-in within) bytes e; first = λ h. absurd (omega arith); second = λ h. absurd (omega arith) })
           (λ ys r e. record { front = λ h. r.front (omega arith); first = λ h. back true e; second = λ h. absurd (omega arith) })
           (λ zs r e. record { front = λ h. r.front (omega arith); first = λ h. r.first (omega arith); second = λ h. back false e })
 
@@ -185,7 +167,7 @@ module _ (L : Layout) (img : List ℕ) (s : State) (f x : ℕ) (P : State → Ty
 
 -- a state with the same numbers in it
 alike : (s : State) {n r b t m : ℕ} → n ≡ s.number → r ≡ s.reads → b ≡ s.bound → t ≡ s.table → m ≡ s.total
-    → s ≡ record { phase = s.phase; number = n; reads = r; bound = b; size = s.size; table = t; front = s.front; total = m }
+    → s ≡ record s { number = n; reads = r; bound = b; table = t; total = m }
 alike s e f g h k = rw (e, f, g, h, k) refl
 
 -- a key of the same front bucket that needs no more changes nothing

@@ -3,6 +3,8 @@
 -- `same-shared`).
 use Rattle.std.proofs.Common.{◌≡◌, ℕ, suc, ◌+◌, ◌*◌, ◌^◌, ◌<◌, ◌≤◌, max, Bool, true, false, ◌&&◌, eqb, ltb, List, length, sym, refl, ap, ◌∙◌, arith, le-ltb, eq-eqb, ne_eqb, eqb-true}
 use mathlib.Core.Option.{Option, none, some}
+use Rattle.std.specs.Prelude as S
+use Rattle.std.specs.Option.{is_some}
 use Rattle.multiset.specs.Multisets.{Found, found_in, largest}
 use Rattle.crumbmap.specs.Layouts.{Layout, keys, fronts}
 use Rattle.crumbmap.specs.CrumbMap.{first_bucket, second_bucket, first_crumb, second_crumb, bucket_of, crumb_of, coincide}
@@ -11,7 +13,7 @@ use Rattle.crumbmap.specs.Steps.Places.{Leads}
 use Rattle.crumbmap.specs.declared.Overflow.{Overflow}
 use Rattle.buckets.specs.Buckets.{front_members, back_members}
 use Rattle.search.specs.Steps.Searches.{search_of}
-use Rattle.search.specs.declared.Search.{Search}
+use Rattle.search.specs.declared.Found as F
 use Rattle.machine.specs.Results.{Result, accepted, refused, and_then, number, or_unsound}
 use Rattle.machine.specs.Images.{bucket_at, front_at, back_at, in_front, in_back}
 use Rattle.machine.specs.Machine.{Asked, asked, denied, front, first, second, reads_behind, ask_second, ask_at}
@@ -28,10 +30,15 @@ use Rattle.grouping.specs.Steps.Grouping.{reach_at, sharing}
 -- ---- a search
 
 -- a key was sought in the bucket that a choice leads to
-pub way-found : (L : Layout) (t : Bool) {B f : ℕ} {w : Overflow} → Leads t B f w → (x : ℕ) (img : List ℕ) {r : Search}
+pub way-found : (L : Layout) (t : Bool) {B f : ℕ} {w : Overflow} → Leads t B f w → (x : ℕ) (img : List ℕ) {r : S.Option F.Found}
     → r ≡ search_of (found_in (x * 16 + w.crumb) (in_back L B w.bucket.0 img))
     → r ≡ search_of (found_in (x * 16 + crumb_of t f) (in_back L B (bucket_of t B f) img))
 way-found L t leads x img e = rw (leads.bucket, leads.crumb) at e
+
+-- a search that found one
+pub is-found : (o : Option Found) {r : S.Option F.Found} → r ≡ search_of o → {b : Bool} → b ≡ is_some r → b ≡ true → (s : Found) × (o ≡ some s)
+is-found none said told t = cc
+is-found (some s) said told t = (s, refl)
 
 -- what was found fits an entry
 pub found-fits : (y : ℕ) (ys : List ℕ) {s : Found} → found_in y ys ≡ some s → length ys ≤ 64 → (s.slot < 2 ^ 32) × (s.copies < 2 ^ 32)

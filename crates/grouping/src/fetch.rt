@@ -7,7 +7,6 @@ ghost use Rattle.grouping.specs.Steps.Grouping.{fetched};
 use crate::State;
 use crumbmap::fingerprint::front_of;
 use image::place::bucket;
-use std::num::wrapping_add_usize;
 
 // One byte of the hash's front bucket is loaded. The bytes are added up since a load whose value nobody keeps is not made; nobody reads the sum.
 pub fn fetch(image: &[u8], s: State, hash: u64) -> State
@@ -17,13 +16,7 @@ pub fn fetch(image: &[u8], s: State, hash: u64) -> State
     let front = front_of(hash, s.size);
     let b = bucket(image, front.0);
     State {
-        phase: s.phase,
-        number: s.number,
-        reads: s.reads,
-        bound: s.bound,
-        size: s.size,
-        table: s.table,
-        front: s.front,
-        total: wrapping_add_usize(s.total, b[0] as usize),
+        total: s.total.wrapping_add(b[0] as usize),
+        ..s
     }
 }

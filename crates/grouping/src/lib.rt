@@ -32,10 +32,3 @@ pub struct Turned {
     pub state: State,
     pub entry: Entry,
 }
-
-// How many of a group's buckets are read once a key is asked for, or the table number of one that is unsound.
-#[derive(Clone, Copy)]
-pub enum Shared {
-    Read(u32),
-    Unsound(usize),
-}

@@ -15,7 +15,6 @@ use crumbmap::fingerprint::{front_of, key_of};
 use crumbmap::map::{coincide, first_of, second_of};
 use image::back::seek_at;
 use image::place::bucket;
-use search::Search;
 use search::find::seek_front;
 
 // An entry whose ask is accepted, with its answer.
@@ -25,15 +24,13 @@ pub fn tell(image: &[u8], size: usize, e: Entry) -> Entry
 {
     let front = front_of(e.hash, size);
     let key = key_of(e.hash);
-    match seek_front(bucket(image, front.0), key) {
-        Search::At(slot, copies) => answered(e, 1, 1, slot, copies),
-        Search::Absent => {
-            if key < reach(image, front) {
-                return answered(e, 1, 0, 0, 0);
-            }
-            tell_behind(image, size, front, key, e)
-        }
+    if let Some(found) = seek_front(bucket(image, front.0), key) {
+        return answered(e, 1, 1, found.slot, found.copies);
     }
+    if key < reach(image, front) {
+        return answered(e, 1, 0, 0, 0);
+    }
+    tell_behind(image, size, front, key, e)
 }
 
 // The same for a key that exceeds the largest of a full front bucket.
@@ -42,15 +39,13 @@ fn tell_behind(image: &[u8], size: usize, front: Front, key: u32, e: Entry) -> E
         × (number (ask_at layout1 size front.0 key image.now) ≡ 0) }
     ensures { result ≡ told_by e (ask_at layout1 size front.0 key image.now) }
 {
-    match seek_at(image, size, first_of(front, size), key) {
-        Search::At(slot, copies) => answered(e, 2, 2, slot, copies),
-        Search::Absent => {
-            let reads = reads_behind(front, size);
-            match seek_at(image, size, second_of(front, size), key) {
-                Search::At(slot, copies) => answered(e, reads, 3, slot, copies),
-                Search::Absent => answered(e, reads, 0, 0, 0),
-            }
-        }
+    if let Some(found) = seek_at(image, size, first_of(front, size), key) {
+        return answered(e, 2, 2, found.slot, found.copies);
+    }
+    let reads = reads_behind(front, size);
+    match seek_at(image, size, second_of(front, size), key) {
+        Some(found) => answered(e, reads, 3, found.slot, found.copies),
+        None => answered(e, reads, 0, 0, 0),
     }
 }
 
@@ -71,10 +66,10 @@ fn answered(e: Entry, reads: u32, place: u32, slot: usize, copies: usize) -> Ent
     ensures { result ≡ filled e reads place slot copies }
 {
     Entry {
-        hash: e.hash,
         reads,
         place,
         slot: slot as u32,
         copies: copies as u32,
+        ..e
     }
 }

@@ -11,30 +11,19 @@ use crate::fetch::fetch;
 use crate::share::test;
 use crate::tell::tell;
 use crate::{State, Turned};
-use answers::{Entry, Refusal, RowResult};
-use image::Size;
-use tails::TailReading;
+use answers::{Entry, Refusal};
 use tails::open::{form_size, tail_at};
 
 // The state before the first entry, by the image's length and its tail: a wrong length is refused at once, a bad tail once the order was tested.
 pub fn begin(image: &[u8]) -> State
     ensures { result ≡ begun known image.now }
 {
-    let Size::Buckets(size) = form_size(image.len()) else {
-        return State {
-            phase: 3,
-            number: 1,
-            reads: 0,
-            bound: 0,
-            size: 0,
-            table: 0,
-            front: 0,
-            total: 0,
-        };
+    let Some(size) = form_size(image.len()) else {
+        return started(3, 0, 1);
     };
     match tail_at(image, size) {
-        TailReading::Good(_) => started(0, size, 0),
-        TailReading::Bad => started(0, size, 11),
+        Some(_) => started(0, size, 0),
+        None => started(0, size, 11),
     }
 }
 
@@ -59,8 +48,7 @@ fn body_of(image: &[u8]) -> &[u8]
     requires { 64 ≤ length image.now }
     ensures { result.now ≡ body image.now }
 {
-    let end = image.len() - 64;
-    &image[..end]
+    &image[..image.len() - 64]
 }
 
 // One entry, with the state before it. The phase is the sweep's and comes apart from the state, so that it is seen to stay along a row.
@@ -68,28 +56,21 @@ pub fn turn(image: &[u8], phase: u32, s: State, e: Entry) -> Turned
     requires { Ready layout1 (body image.now) phase s e.hash }
     ensures { result ≡ turned layout1 (body image.now) phase s e }
 {
-    if phase == 0 {
-        let next = fetch(body_of(image), s, e.hash);
-        return Turned {
-            state: next,
+    match phase {
+        0 => Turned {
+            state: fetch(body_of(image), s, e.hash),
             entry: e,
-        };
-    }
-    if phase == 1 {
-        let next = test(body_of(image), s, e.hash);
-        return Turned {
-            state: next,
+        },
+        1 => Turned {
+            state: test(body_of(image), s, e.hash),
             entry: e,
-        };
-    }
-    if phase == 2 {
-        let answer = tell(body_of(image), s.size, e);
-        return Turned {
+        },
+        2 => Turned {
             state: s,
-            entry: answer,
-        };
+            entry: tell(body_of(image), s.size, e),
+        },
+        _ => Turned { state: s, entry: e },
     }
-    Turned { state: s, entry: e }
 }
 
 // After a sweep: what was fetched is tested, and what was tested receives its answers or is refused.
@@ -100,34 +81,18 @@ pub fn resume(s: State) -> State
         return started(1, s.size, s.number);
     }
     let phase = if s.number == 0 { 2 } else { 3 };
-    State {
-        phase,
-        number: s.number,
-        reads: s.reads,
-        bound: s.bound,
-        size: s.size,
-        table: s.table,
-        front: s.front,
-        total: s.total,
-    }
+    State { phase, ..s }
 }
 
 // What the row gives.
-pub fn outcome(s: State) -> RowResult
+pub fn outcome(s: State) -> Result<usize, Refusal>
     ensures { rowed_of result ≡ result_of s }
 {
-    let number = s.number;
-    if number == 0 {
-        return RowResult::Accepted(s.total);
+    match s.number {
+        0 => Ok(s.total),
+        1 => Err(Refusal::WrongLength),
+        10 => Err(Refusal::Descending),
+        11 => Err(Refusal::BadTail),
+        _ => Err(Refusal::Unsound(s.table)),
     }
-    if number == 1 {
-        return RowResult::Refused(Refusal::WrongLength);
-    }
-    if number == 10 {
-        return RowResult::Refused(Refusal::Descending);
-    }
-    if number == 11 {
-        return RowResult::Refused(Refusal::BadTail);
-    }
-    RowResult::Refused(Refusal::Unsound(s.table))
 }

@@ -6,43 +6,38 @@ use mathlib.Core.Bool.{Bool, true, false}
 use mathlib.Core.List.{List}
 use mathlib.Core.Option.{Option, none, some}
 use native.Mathlib.Omega.{arith}
+use Rattle.std.specs.Prelude as S
 use lib.ListN.{length}
 use lib.Dec.{T}
 use Rattle.multiset.specs.Multisets.{below, copies, largest, ascending}
 use Rattle.multiset.proofs.MultisetLaws.{below-copies}
 use Rattle.multiset.proofs.OrderLaws.{copies-largest, largest-max}
 use Rattle.multiset.proofs.SlotLaws.{slot-inside, slot-holds, holds-copy, largest-at}
-use Rattle.crumbmap.specs.Layouts.{Layout, keys, fronts, backyards}
+use Rattle.crumbmap.specs.Layouts.{Layout, keys, backyards}
 use Rattle.crumbmap.specs.Fingerprints.{front_of, key_of}
 use Rattle.crumbmap.specs.CrumbMap.{first_bucket, second_bucket, bucket_of}
 use Rattle.crumbmap.specs.Steps.Places.{Leads}
 use Rattle.crumbmap.specs.declared.Overflow.{Overflow}
 use Rattle.buckets.specs.Buckets.{Fits64}
-use Rattle.minifilter.specs.declared.Reading.{Reading}
-use Rattle.minifilter.specs.declared.Reading.TheVariants as R
 use Rattle.machine.specs.Results.{Result, accepted, refused}
-use Rattle.machine.specs.Images.{size_of, front_at, back_at, in_front, in_back}
+use Rattle.machine.specs.Images.{size_of, back_at, in_front, in_back}
 use Rattle.machine.specs.Machine.{backyard, ask_at}
 use Rattle.machine.proofs.AskLaws.{ask_behind, ask-behind}
 use Rattle.machine.proofs.ImageLaws.{size_of-some, size_of-length_of, front-inside, back_inside}
-use Rattle.image.specs.Steps.ImageReads.{sizing, Locates, Whole, FrontIn, Placed, BackIn, At, FrontRead, BackRead, FrontSays, BackSays, BothRead, Reads, ReadFor, BackyardSays, FrontFull, Exceeds, BagRead}
-use Rattle.image.specs.declared.Size.{Size}
-use Rattle.image.specs.declared.Size.TheVariants.{Buckets, Wrong}
+use Rattle.image.specs.Steps.ImageReads.{sizing, Locates, Whole, FrontIn, Placed, BackIn, At, FrontRead, BackRead, BothRead, Reads, ReadFor, FrontFull, Exceeds, BagRead}
 use Rattle.image.specs.declared.Target.{Target}
 use Rattle.image.specs.declared.BackReading.{BackReading}
-use Rattle.image.specs.declared.BackyardReading.{BackyardReading}
-use Rattle.image.specs.declared.BackyardReading.TheVariants as Y
 
 -- ---- sizes and places
 
 -- a size that was found, and that none was
-pub size-some : (o : Option ℕ) {r : Size} {B : ℕ} → r ≡ sizing o → r ≡ Buckets B → o ≡ some B
-size-some none e f = let z : ◌≡◌ {A = ℕ} 0 1 = cc in absurd (omega arith)
+pub size-some : (o : Option ℕ) {r : S.Option ℕ} {B : ℕ} → r ≡ sizing o → r ≡ S.Some B → o ≡ some B
+size-some none e f = cc
 size-some (some C) e f = cc
 
-pub size_none : (o : Option ℕ) {r : Size} → r ≡ sizing o → r ≡ Wrong → o ≡ none
+pub size_none : (o : Option ℕ) {r : S.Option ℕ} → r ≡ sizing o → r ≡ S.None → o ≡ none
 size_none none e f = refl
-size_none (some C) e f = let z : ◌≡◌ {A = ℕ} 0 1 = cc in absurd (omega arith)
+size_none (some C) e f = cc
 
 -- an image of size B is one whose length is B's
 pub whole_of : {B : ℕ} (img : List ℕ) → size_of (length img) ≡ some B → Whole B img
@@ -70,33 +65,7 @@ module _ {L : Layout} {B k : ℕ} {t : Target} (l : Locates L B k t) where
   pub placed : {img : List ℕ} → Whole B img → Placed L t img
   placed w = record { within = record { whole = rw l.size w; front = rw l.size l.inside }; key = l.low }
 
--- ---- what a reader said
-
--- where it found members and where not
-module _ (L : Layout) (f x : ℕ) (img : List ℕ) {r : Reading} (said : FrontSays L f x img r) where
-  pub front-told : {n s : ℕ} → r ≡ R.Members n s → FrontRead L f img × (length (in_front L f img) ≡ n) × (s ≡ below x (in_front L f img))
-  front-told e = rw e at said
-
-  pub front-unsound : r ≡ R.Unsound → front_at L f img ≡ refused 3 f
-  front-unsound e = rw e at said
-
-module _ (L : Layout) (B j y : ℕ) (img : List ℕ) {r : Reading} (said : BackSays L B j y img r) where
-  pub back-told : {n s : ℕ} → r ≡ R.Members n s → BackRead L B j img × (length (in_back L B j img) ≡ n) × (s ≡ below y (in_back L B j img))
-  back-told e = rw e at said
-
-  pub back-unsound : r ≡ R.Unsound → back_at L B j img ≡ refused 3 (fronts B + j)
-  back-unsound e = rw e at said
-
--- the same at the backyard bucket that a choice leads to, for a key with the crumb that it carries there
-module _ (L : Layout) (t : Bool) {B f : ℕ} {w : Overflow} (leads : Leads t B f w) (x : ℕ) (img : List ℕ) {r : Reading}
-    (said : BackSays L B w.bucket.0 (x * 16 + w.crumb) img r) where
-  pub way-read : {n s : ℕ} → r ≡ R.Members n s → Reads L t B f x img (record { way = w; members = n; below = s })
-  way-read e =
-      let q = rw (leads.bucket, leads.crumb) at (back-told L B w.bucket.0 (x * 16 + w.crumb) img said e) in
-      record { leads = leads; read = q.0; many = q.1; rank = q.2 }
-
-  pub way-unsound : r ≡ R.Unsound → back_at L B (bucket_of t B f) img ≡ refused 3 (fronts B + bucket_of t B f)
-  way-unsound e = rw leads.bucket at (back-unsound L B w.bucket.0 (x * 16 + w.crumb) img said e)
+-- ---- what was read
 
 -- a backyard bucket that a choice leads to was read: it can be searched for its crumb
 pub bag-read : {L : Layout} {t : Bool} {B f : ℕ} {w : Overflow} {img : List ℕ} → Leads t B f w → BackRead L B (bucket_of t B f) img → BagRead L B w img
@@ -112,17 +81,9 @@ read-for s k = record {
 }
 
 -- b1 is unsound where b0 is sound
-pub second-unsound : {L : Layout} {B f i : ℕ} {img : List ℕ} {w : Overflow} → Leads false B f w → i ≡ fronts B + w.bucket.0 → BackRead L B (first_bucket f) img
-    → back_at L B (second_bucket B f) img ≡ refused 3 (fronts B + second_bucket B f) → backyard L B f img ≡ refused 3 i
-second-unsound l e r u = rw (e, l.bucket, r.accepts, u)
-
--- what reading both said
-module _ (L : Layout) (B f x : ℕ) (img : List ℕ) {r : BackyardReading} (said : BackyardSays L B f x img r) where
-  pub both-sound : {a b : BackReading} → r ≡ Y.Sound a b → Reads L true B f x img a × Reads L false B f x img b
-  both-sound e = rw e at said
-
-  pub both-unsound : {i : ℕ} → r ≡ Y.Unsound i → backyard L B f img ≡ refused 3 i
-  both-unsound e = rw e at said
+pub second-unsound : (L : Layout) (B f : ℕ) (img : List ℕ) {i : ℕ} → BackRead L B (first_bucket f) img → back_at L B (second_bucket B f) img ≡ refused 3 i
+    → backyard L B f img ≡ refused 3 i
+second-unsound L B f img r u = rw (r.accepts, u)
 
 pub both_read : {L : Layout} {B f x : ℕ} {img : List ℕ} {a b : BackReading} → Reads L true B f x img a → Reads L false B f x img b → BothRead L B f img
 both_read p q = record { first = p.read; second = q.read }

@@ -12,10 +12,8 @@ pub fn clear_all(image: &mut [u8], buckets: usize)
     requires { length image.old ≡ 64 * buckets }
     ensures { image.new ≡ repeated buckets (front_bytes layout1 []) }
 {
-    let mut i = 0;
-    while i < buckets {
+    for i in 0..buckets {
         clear_at(image, i);
-        i += 1;
     }
 }
 

@@ -7,8 +7,8 @@ ghost use Rattle.buckets.specs.Buckets.{FrontList};
 ghost use Rattle.machine.specs.Images.{put, in_front, put_front};
 ghost use Rattle.image.specs.Steps.ImageReads.{At, FrontRead, FrontSays, FrontJoin, FrontSwapAt, occupied};
 
-use crate::copy::copy_bytes;
 use crate::place::bucket;
+use answers::UnsoundBucket;
 use crumbmap::Front;
 use edits::edit::{insert_front, remove_front, swap_front};
 use edits::write::write_front;
@@ -17,19 +17,25 @@ use minifilter::read::{read_front, sound_front};
 use search::find::count_front;
 
 // A front bucket, read whole, and how many of its members are below a key.
-pub fn read_front_at(image: &[u8], front: Front, key: u32) -> Reading
+pub fn read_front_at(image: &[u8], front: Front, key: u32) -> Result<Reading, UnsoundBucket>
     requires { (64 * front.0 + 64 ≤ length image.now) × (key < keys layout1) }
     ensures { FrontSays layout1 front.0 key image.now result }
 {
-    read_front(bucket(image, front.0), key)
+    let Some(reading) = read_front(bucket(image, front.0), key) else {
+        return Err(UnsoundBucket(front.0));
+    };
+    Ok(reading)
 }
 
 // The same where nobody asks for a key.
-pub fn sound_front_at(image: &[u8], front: Front) -> Reading
+pub fn sound_front_at(image: &[u8], front: Front) -> Result<Reading, UnsoundBucket>
     requires { 64 * front.0 + 64 ≤ length image.now }
     ensures { FrontSays layout1 front.0 0 image.now result }
 {
-    sound_front(bucket(image, front.0))
+    let Some(reading) = sound_front(bucket(image, front.0)) else {
+        return Err(UnsoundBucket(front.0));
+    };
+    Ok(reading)
 }
 
 // A key joins a front bucket that has a free slot, behind the members below it.
@@ -97,5 +103,5 @@ pub fn write_front_at(image: &mut [u8], front: Front, bytes: &[u8])
     let f = front.0;
     let at = 64 * f;
     let end = at + 64;
-    copy_bytes(bytes, &mut image[at..end]);
+    image[at..end].copy_from_slice(bytes);
 }

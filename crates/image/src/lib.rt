@@ -18,13 +18,6 @@ pub struct Target {
     pub key: u32,
 }
 
-// An image's size B, or that no image has this length.
-#[derive(Clone, Copy)]
-pub enum Size {
-    Buckets(usize),
-    Wrong,
-}
-
 // A backyard bucket of a front bucket that was read and is sound: where it is and the crumb that is kept there, how many members it holds, and
 // how many of them are below the key that is sought.
 #[derive(Clone, Copy)]
@@ -32,11 +25,4 @@ pub struct BackReading {
     pub way: Overflow,
     pub members: usize,
     pub below: usize,
-}
-
-// What reading both backyard buckets of a front bucket finds, or the table number of the first that is unsound.
-#[derive(Clone, Copy)]
-pub enum BackyardReading {
-    Sound(BackReading, BackReading),
-    Unsound(usize),
 }

@@ -6,25 +6,25 @@ ghost use Rattle.crumbmap.specs.Layouts.{layout1, fronts, backyards};
 ghost use Rattle.machine.specs.Images.{size_of, bucket_at};
 ghost use Rattle.image.specs.Steps.ImageReads.{sizing, Locates, BackIn};
 
-use crate::{Size, Target};
+use crate::Target;
 use crumbmap::Backyard;
 use crumbmap::fingerprint::{front_of, key_of};
 
-// "A lent byte slice of 576 × B + 448 bytes, B from 1 to 65,536."
-pub fn size_of(len: usize) -> Size
+// "A lent byte slice of 576 × B + 448 bytes, B from 1 to 65,536": B, none where no image has this length.
+pub fn size_of(len: usize) -> Option<usize>
     ensures { result ≡ sizing (size_of len) }
 {
     if len < 1024 {
-        return Size::Wrong;
+        return None;
     }
     let size = (len - 448) / 576;
     if 65536 < size {
-        return Size::Wrong;
+        return None;
     }
     if len == 576 * size + 448 {
-        Size::Buckets(size)
+        Some(size)
     } else {
-        Size::Wrong
+        None
     }
 }
 

@@ -9,6 +9,7 @@ use native.Mathlib.Omega.{arith, by_contra}
 use lib.ListN.{length, take}
 use lib.Dec.{T, ltb}
 use borrow.Author.Tests.{lt-ltb, le-ltb}
+use Rattle.std.specs.Prelude as S
 use Rattle.multiset.specs.Multisets.{added, removed, largest, ascending}
 use Rattle.multiset.proofs.MultisetLaws.{removed-added}
 use Rattle.multiset.proofs.OrderLaws.{largest-added, removed-added-other}
@@ -38,7 +39,7 @@ use Rattle.tails.specs.Steps.Changing.{within, tail_within}
 use Rattle.tails.specs.declared.Opened.{Opened}
 use Rattle.tails.proofs.OpenLaws.{then-opened}
 use Rattle.tails.proofs.CallLaws.{hash-call}
-use Rattle.insertion.specs.Steps.Insertions.{InsertsAt, roomless, FullAt, overflow_at, spilled, Spills, Plans}
+use Rattle.insertion.specs.Steps.Insertions.{InsertsAt, FullAt, overflow_at, spilled, Spills, Plans}
 use Rattle.insertion.specs.declared.Spilling.{Spilling}
 use Rattle.insertion.specs.declared.InsertPlan.{InsertPlan}
 use Rattle.insertion.specs.declared.InsertPlan.TheVariants as P
@@ -152,22 +153,24 @@ module _ {L : Layout} {t : Target} {slot over : ℕ} {img : List ℕ} (full : Fu
   plan-second e = planned-to false q (taker-room L a.members b.members (rw p.many at p.read.list.room) (rw q.many at q.read.list.room) false e) e
 
 -- what a plan said
-module _ (L : Layout) (t : Target) (img : List ℕ) {r : InsertPlan} (said : Plans L t img r) where
-  pub plan-refused : {why : Refusal} → r ≡ P.Refused why → insert_at L t.size t.front.0 t.key img ≡ refusal why
-  plan-refused e = rw e at said
+module _ (L : Layout) (t : Target) (img : List ℕ) where
+  -- its own refusal, whether the total has room or not
+  pub plan-refused : (room : Bool) {why : Refusal} → insert_at L t.size t.front.0 t.key img ≡ refusal why → InsertsAt L t room img (S.Err why) img
+  unfolding within
+  plan-refused room {why} e = changes (rw e) (change-refused why img)
 
-  pub plan-joins : {slot : ℕ} → r ≡ P.Joins slot → FrontJoin L t.front.0 slot t.key img
-  plan-joins e = rw e at said
+  -- 12 comes behind it
+  pub plan-roomless : (r : InsertPlan) → Plans L t img (S.Ok r) → InsertsAt L t false img (S.Err Miscounted) img
+  unfolding within
+  plan-roomless (P.Joins slot) said = changes (rw (insert-short t img said.read said.room)) (change-refused Miscounted img)
+  plan-roomless (P.Spills s) said = changes (rw said.insert) (change-refused Miscounted img)
 
-  pub plan-spills : {s : Spilling} → r ≡ P.Spills s → Spills L t s img
-  plan-spills e = rw e at said
+  module _ {r : InsertPlan} (said : Plans L t img (S.Ok r)) where
+    pub plan-joins : {slot : ℕ} → r ≡ P.Joins slot → FrontJoin L t.front.0 slot t.key img
+    plan-joins e = rw e at said
 
--- the refusal of a plan for which the total has no room
-pub plan-roomless : (L : Layout) (t : Target) (img : List ℕ) (r : InsertPlan) → Plans L t img r → InsertsAt L t false img (roomless r) img
-unfolding within
-plan-roomless L t img (P.Refused why) said = changes (rw said) (change-refused why img)
-plan-roomless L t img (P.Joins slot) said = changes (rw (insert-short t img said.read said.room)) (change-refused Miscounted img)
-plan-roomless L t img (P.Spills s) said = changes (rw said.insert) (change-refused Miscounted img)
+    pub plan-spills : {s : Spilling} → r ≡ P.Spills s → Spills L t s img
+    plan-spills e = rw e at said
 
 -- ---- on an image that was opened, by the insert of its body
 

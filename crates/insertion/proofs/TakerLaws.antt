@@ -10,34 +10,23 @@ use Rattle.crumbmap.specs.Layouts.{Layout}
 use Rattle.machine.specs.Machine.{taker}
 use Rattle.machine.proofs.TakeLaws.{room-first, room-second}
 use Rattle.insertion.specs.Steps.Insertions.{taking_of}
-use Rattle.insertion.specs.declared.Taking.{Taking}
 use Rattle.insertion.specs.declared.Taking.TheVariants as T
 
 -- what each answer says
-module _ {r : Taking} {o : Option Bool} (said : r ≡ taking_of o) where
-  pub taking-full : r ≡ T.Full → o ≡ none
-  taking-full e = go o said
-    where
-      go : (o : Option Bool) → r ≡ taking_of o → o ≡ none
-      go none q = refl
-      go (some true) q = let z : ◌≡◌ {A = ℕ} 0 1 = cc in absurd (omega arith)
-      go (some false) q = let z : ◌≡◌ {A = ℕ} 0 1 = cc in absurd (omega arith)
+pub taking-full : {o : Option Bool} → T.Full ≡ taking_of o → o ≡ none
+taking-full {o = none} e = refl
+taking-full {o = some true} e = cc
+taking-full {o = some false} e = cc
 
-  pub taking-first : r ≡ T.First → o ≡ some true
-  taking-first e = go o said
-    where
-      go : (o : Option Bool) → r ≡ taking_of o → o ≡ some true
-      go none q = let z : ◌≡◌ {A = ℕ} 0 1 = cc in absurd (omega arith)
-      go (some true) q = refl
-      go (some false) q = let z : ◌≡◌ {A = ℕ} 0 1 = cc in absurd (omega arith)
+pub taking-first : {o : Option Bool} → T.First ≡ taking_of o → o ≡ some true
+taking-first {o = none} e = cc
+taking-first {o = some true} e = refl
+taking-first {o = some false} e = cc
 
-  pub taking-second : r ≡ T.Second → o ≡ some false
-  taking-second e = go o said
-    where
-      go : (o : Option Bool) → r ≡ taking_of o → o ≡ some false
-      go none q = let z : ◌≡◌ {A = ℕ} 0 1 = cc in absurd (omega arith)
-      go (some true) q = let z : ◌≡◌ {A = ℕ} 0 1 = cc in absurd (omega arith)
-      go (some false) q = refl
+pub taking-second : {o : Option Bool} → T.Second ≡ taking_of o → o ≡ some false
+taking-second {o = none} e = cc
+taking-second {o = some true} e = cc
+taking-second {o = some false} e = refl
 
 -- by the member counts, each at most the slots
 module _ (L : Layout) (n0 n1 : ℕ) (r0 : n0 ≤ L.back_slots) (r1 : n1 ≤ L.back_slots) where

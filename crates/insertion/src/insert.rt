@@ -5,77 +5,59 @@ ghost use Rattle.crumbmap.specs.Layouts.{layout1};
 ghost use Rattle.answers.specs.Answers.{Inserts};
 ghost use Rattle.image.specs.Steps.ImageReads.{Placed};
 ghost use Rattle.tails.specs.Steps.Openings.{Opens};
-ghost use Rattle.insertion.specs.Steps.Insertions.{InsertsAt, roomless, Spills, spilled};
+ghost use Rattle.insertion.specs.Steps.Insertions.{InsertsAt, Spills, spilled};
 
 use crate::plan::plan;
 use crate::{InsertPlan, Spilling};
-use answers::{ChangeResult, Refusal};
+use answers::Refusal;
 use crumbmap::layout::FRONT_SLOTS;
 use image::Target;
 use image::back::insert_back_at;
 use image::front::{insert_front_at, swap_front_at};
 use image::place::target_of;
+use tails::Opened;
 use tails::open::open_image;
 use tails::tail::{TOP, slots_of, write_tail};
-use tails::{Opened, Opening};
 
 // One more copy of a hash's fingerprint.
-pub fn insert(image: &mut [u8], hash: u64) -> ChangeResult
+pub fn insert(image: &mut [u8], hash: u64) -> Result<usize, Refusal>
     ensures { Inserts image.old hash result image.new }
 {
-    match open_image(image) {
-        Opening::Refused(why) => ChangeResult::Refused(why),
-        Opening::At(opened) => insert_opened(image, opened, hash),
-    }
+    let opened = open_image(image)?;
+    insert_opened(image, opened, hash)
 }
 
 // The same on an image that was opened: 13 before the body is read, and its tail once the body is written.
-fn insert_opened(image: &mut [u8], opened: Opened, hash: u64) -> ChangeResult
+fn insert_opened(image: &mut [u8], opened: Opened, hash: u64) -> Result<usize, Refusal>
     requires { Opens opened image.old }
     ensures { Inserts image.old hash result image.new }
 {
     if opened.changes == TOP {
-        return ChangeResult::Refused(Refusal::Spent);
+        return Err(Refusal::Spent);
     }
     let end = opened.end;
     let target = target_of(opened.size, hash);
     let room = opened.total < slots_of(opened.size);
-    match insert_at(&mut image[..end], target, room) {
-        ChangeResult::Refused(why) => ChangeResult::Refused(why),
-        ChangeResult::Accepted(answer) => {
-            write_tail(&mut image[end..], opened.total + 1, opened.changes + 1);
-            ChangeResult::Accepted(answer)
-        }
-    }
+    let answer = insert_at(&mut image[..end], target, room)?;
+    write_tail(&mut image[end..], opened.total + 1, opened.changes + 1);
+    Ok(answer)
 }
 
 // What was planned is written, where the total has room for one more: 12 is known before any byte is written.
-fn insert_at(image: &mut [u8], target: Target, room: bool) -> ChangeResult
+fn insert_at(image: &mut [u8], target: Target, room: bool) -> Result<usize, Refusal>
     requires { Placed layout1 target image.old }
     ensures { InsertsAt layout1 target room image.old result image.new }
 {
-    let planned = plan(image, target);
+    let planned = plan(image, target)?;
     if !room {
-        return without_room(planned);
+        return Err(Refusal::Miscounted);
     }
     match planned {
-        InsertPlan::Refused(why) => ChangeResult::Refused(why),
         InsertPlan::Joins(slot) => {
             insert_front_at(image, target.front, slot, target.key);
-            ChangeResult::Accepted(0)
+            Ok(0)
         }
-        InsertPlan::Spills(spilling) => ChangeResult::Accepted(spill(image, target, spilling)),
-    }
-}
-
-// Why an insert is refused for which the total has no room: its own refusal, else 12.
-fn without_room(planned: InsertPlan) -> ChangeResult
-    ensures { result ≡ roomless planned }
-{
-    match planned {
-        InsertPlan::Refused(why) => ChangeResult::Refused(why),
-        InsertPlan::Joins(_) => ChangeResult::Refused(Refusal::Miscounted),
-        InsertPlan::Spills(_) => ChangeResult::Refused(Refusal::Miscounted),
+        InsertPlan::Spills(spilling) => Ok(spill(image, target, spilling)),
     }
 }
 

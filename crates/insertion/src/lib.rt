@@ -6,13 +6,11 @@ pub mod insert;
 pub mod plan;
 pub mod taker;
 
-use answers::Refusal;
 use crumbmap::Overflow;
 
-// What an insert does: it is refused, the key joins the front bucket at a slot, or an overflow leaves it.
+// What an insert does that is not refused: the key joins the front bucket at a slot, or an overflow leaves it.
 #[derive(Clone, Copy)]
 pub enum InsertPlan {
-    Refused(Refusal),
     Joins(usize),
     Spills(Spilling),
 }

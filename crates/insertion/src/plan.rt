@@ -17,40 +17,35 @@ use crumbmap::map::ways_of;
 use image::back::read_backyard;
 use image::front::read_front_at;
 use image::place::bucket;
-use image::{BackReading, BackyardReading, Target};
-use minifilter::Reading;
+use image::{BackReading, Target};
 use search::find::largest_front;
 
 // The front bucket has a free slot, or its overflow has to go behind it.
-pub fn plan(image: &[u8], target: Target) -> InsertPlan
+pub fn plan(image: &[u8], target: Target) -> Result<InsertPlan, Refusal>
     requires { Placed layout1 target image.now }
     ensures { Plans layout1 target image.now result }
 {
     let front = target.front;
-    let Reading::Members(n, slot) = read_front_at(image, front, target.key) else {
-        return InsertPlan::Refused(Refusal::Unsound(front.0));
-    };
-    if n < FRONT_SLOTS {
-        return InsertPlan::Joins(slot);
+    let reading = read_front_at(image, front, target.key)?;
+    if reading.members < FRONT_SLOTS {
+        return Ok(InsertPlan::Joins(reading.below));
     }
-    plan_full(image, target, slot)
+    plan_full(image, target, reading.below)
 }
 
 // The front bucket is full: b0 and b1 are read for its overflow.
-fn plan_full(image: &[u8], target: Target, slot: usize) -> InsertPlan
+fn plan_full(image: &[u8], target: Target, slot: usize) -> Result<InsertPlan, Refusal>
     requires { FullAt layout1 target slot image.now }
     ensures { Plans layout1 target image.now result }
 {
     let size = target.size;
     let front = target.front;
     let over = overflow_of(image, front, target.key);
-    match read_backyard(image, size, front, ways_of(front, size), over) {
-        BackyardReading::Unsound(table) => InsertPlan::Refused(Refusal::Unsound(table)),
-        BackyardReading::Sound(a, b) => match taker(a.members, b.members) {
-            Taking::Full => InsertPlan::Refused(Refusal::Full),
-            Taking::First => spills(over, slot, a),
-            Taking::Second => spills(over, slot, b),
-        },
+    let (a, b) = read_backyard(image, size, front, ways_of(front, size), over)?;
+    match taker(a.members, b.members) {
+        Taking::Full => Err(Refusal::Full),
+        Taking::First => Ok(spills(over, slot, a)),
+        Taking::Second => Ok(spills(over, slot, b)),
     }
 }
 

@@ -35,10 +35,7 @@ pub fn merge_front<'a>(
     ensures { reached result target.new
         ≡ both_inserted layout1 size front.0 first.now second.now target.old }
 {
-    if count_front(bucket(first, front.0)) == 0 {
-        return take_over(table, first, second, size, front, target);
-    }
-    if count_front(bucket(second, front.0)) == 0 {
+    if count_front(bucket(first, front.0)) == 0 || count_front(bucket(second, front.0)) == 0 {
         return take_over(table, first, second, size, front, target);
     }
     merge_both(table, first, second, size, front, target, a, b, over)
@@ -58,7 +55,8 @@ fn take_over<'a>(
     ensures { reached result target.new
         ≡ both_inserted layout1 size front.0 first.now second.now target.old }
 {
-    write_front_at(target, front, occupied_front(first, second, front));
+    let served = occupied_front(first, second, front);
+    write_front_at(target, front, served);
     if add_behind(table, first, size, front, target) {
         return add_behind(table, second, size, front, target);
     }

@@ -11,6 +11,7 @@ use lib.Seq.{length-take-le, take_at, take_all, take-suc, take-suc-set, take-app
 use lib.Dec.{eqb, leb}
 use borrow.Author.Tests.{ne_eqb, leb-true, leb-false}
 use Rattle.frame.specs.Frames.{frame_of}
+use Rattle.std.specs.Prelude as S
 use Rattle.frame.specs.declared.Frame.{Frame}
 use Rattle.frame.proofs.FrameLaws.{frame-length}
 use Rattle.lines.specs.Inputs.{last_line, lines_after, frames_after, text_of_frames, output_of}
@@ -105,12 +106,12 @@ frame-held line = go (leb (length line) 19) refl
 
 last-held : (l : List ℕ) → map frame_of (last_line (take 19 l)) ≡ map frame_of (last_line l)
 last-held [] = refl
-last-held (b ∷ bs) = ap (λ (f : Frame). f ∷ []) (frame-held (b ∷ bs))
+last-held (b ∷ bs) = ap (λ (f : S.Option Frame). f ∷ []) (frame-held (b ∷ bs))
 
 byte-held : (l bs : List ℕ) (b : ℕ) (t : Bool) → eqb b 10 ≡ t → ((k : List ℕ) → frames_after (take 19 k) bs ≡ frames_after k bs)
     → frames_after (take 19 l) (b ∷ bs) ≡ frames_after l (b ∷ bs)
 unfolding lines_after kept
-byte-held l bs b true e h = rw e (ap (λ (f : Frame). f ∷ frames_after [] bs) (frame-held l))
+byte-held l bs b true e h = rw e (ap (λ (f : S.Option Frame). f ∷ frames_after [] bs) (frame-held l))
 byte-held l bs b false e h = rw e (sym (h (take 19 l ++ (b ∷ []))) ∙ rw (kept-take l b) (h (l ++ (b ∷ []))))
 
 -- a line of which 19 bytes are held is read as if all were
@@ -131,7 +132,7 @@ unfolding lines_after
 reads-newline held b e rest = rw e
 
 -- bytes behind bytes
-pub reads_on : (held bs held₁ cs held₂ : List ℕ) (fs gs : List Frame) → Reads held bs fs held₁ → Reads held₁ cs gs held₂
+pub reads_on : (held bs held₁ cs held₂ : List ℕ) (fs gs : List (S.Option Frame)) → Reads held bs fs held₁ → Reads held₁ cs gs held₂
     → Reads held (bs ++ cs) (fs ++ gs) held₂
 reads_on held bs held₁ cs held₂ fs gs p q rest =
     rw (append_assoc bs cs rest) (p (cs ++ rest) ∙ rw (q rest) (sym (append_assoc fs gs (frames_after held₂ rest))))
@@ -142,3 +143,6 @@ pub reads_more : (held bytes held₁ held₂ : List ℕ) (i : ℕ) → i < lengt
 reads_more held bytes held₁ held₂ i h p e r =
     rw (add-one i, take-suc bytes i 0 h, e)
     (reads_on held (take i bytes) held₁ (get_or bytes i 0 ∷ []) (kept held₁ (get_or bytes i 0)) [] [] r (reads_byte held₁ (get_or bytes i 0) p))
+
+-- what is known of bytes held
+pub ruleset held = (kept_full, kept_more, reads_none, reads_more)

@@ -15,23 +15,23 @@ use Rattle.form.specs.Calls.{fresh_of}
 use Rattle.form.proofs.TailLaws.{length-body}
 use Rattle.text.specs.Texts.{over}
 use Rattle.frame.specs.Frames.{frame_of, text_of, image_after, fit, Answers}
+use Rattle.std.specs.Prelude as S
+use Rattle.std.specs.Option.{unwrap_or}
 use Rattle.frame.specs.declared.Frame.{Frame}
-use Rattle.frame.specs.declared.Printed.TheVariants.{Text, Unfit}
 use Rattle.text.proofs.PrintLaws.{over-whole}
 use Rattle.frame.proofs.PerformLaws.{fit-both}
 use Rattle.lines.specs.Inputs.{lines_after, frames_after, text_of_frames, image_of_frames, start_image, output_of, image_of_input}
 use Rattle.lines.specs.Steps.Turns.{Turn, Holds, Replies, Steps, Ends, Taken, none, step, Run, start, piece, joined}
 use Rattle.lines.specs.declared.Held.{Held}
-use Rattle.lines.specs.declared.Step.{Step}
 use Rattle.lines.proofs.LineLaws.{reads_none, reads-newline, reads_on}
 
-text-append : (fs gs : List Frame) (img : List ℕ) → text_of_frames (fs ++ gs) img ≡ text_of_frames fs img ++ text_of_frames gs (image_of_frames fs img)
+text-append : (fs gs : List (S.Option Frame)) (img : List ℕ) → text_of_frames (fs ++ gs) img ≡ text_of_frames fs img ++ text_of_frames gs (image_of_frames fs img)
 unfolding text_of_frames image_of_frames
 text-append [] gs img = refl
 text-append (f ∷ fs) gs img =
     rw (text-append fs gs (image_after f img)) (sym (append_assoc (text_of f img) (text_of_frames fs (image_after f img)) _))
 
-image-append : (fs gs : List Frame) (img : List ℕ) → image_of_frames (fs ++ gs) img ≡ image_of_frames gs (image_of_frames fs img)
+image-append : (fs gs : List (S.Option Frame)) (img : List ℕ) → image_of_frames (fs ++ gs) img ≡ image_of_frames gs (image_of_frames fs img)
 unfolding image_of_frames
 image-append [] gs img = refl
 image-append (f ∷ fs) gs img = image-append fs gs (image_after f img)
@@ -85,26 +85,20 @@ pub started : (old new : List ℕ) → length old ≡ 2240 → new ≡ written (
 unfolding fresh_of size_of length_of
 started old new l e = e ∙ rw (length-body old, l)
 
-pub replied : (input old out new printed : List ℕ) (n : ℕ) → length old ≡ 2240 → length out ≡ 29397 → Answers input old out (Text n) new printed
-    → Replies input old n new printed
+-- image and output fit, so there is a text
+pub replied : (input old out new printed : List ℕ) (r : S.Option ℕ) → length old ≡ 2240 → length out ≡ 29397 → Answers input old out r new printed
+    → Replies input old (unwrap_or r 0) new printed
 unfolding over
-replied input old out new printed n h l a =
+replied input old out new printed r h l a =
     let f : fit old out ≡ true = fit-both old out h (omega arith) in
-    let c : Text n ≡ Text (length (text_of (frame_of input) old)) = rw f at a.count in
-    let e : n ≡ length (text_of (frame_of input) old) = cc in
+    let e : r ≡ S.Some (length (text_of (frame_of input) old)) = rw f at a.count in
     let p : printed ≡ over 0 (text_of (frame_of input) old) out = rw f at a.text in
-    record {
-      room = rw (e, p) (over-whole (text_of (frame_of input) old) out);
-      text = rw (e, p) (take-append_seam (text_of (frame_of input) old) _);
+    rw e
+    (record {
+      room = rw p (over-whole (text_of (frame_of input) old) out);
+      text = rw p (take-append_seam (text_of (frame_of input) old) _);
       image = rw f at a.image;
-    }
-
--- image and output fit
-pub fits : (input old out new printed : List ℕ) → length old ≡ 2240 → length out ≡ 29397 → Answers input old out Unfit new printed → ⊥
-fits input old out new printed h l a =
-    let c : Unfit ≡ Text (length (text_of (frame_of input) old)) = rw (fit-both old out h (omega arith)) at a.count in
-    let z : ◌≡◌ {A = ℕ} 0 1 = cc in
-    omega arith
+    })
 
 -- the end with nothing held
 pub ends-none : (img out : List ℕ) (line : List ℕ) (held : ℕ) → held ≡ 0 → Ends img (take held line) 0 img out
@@ -123,11 +117,6 @@ part-taken zero n l h = let e : n - 0 ≡ n = omega arith in rw e
 part-taken (suc f) zero l h = absurd (omega arith)
 part-taken (suc f) (suc n) [] h = take-nil (suc n - suc f)
 part-taken (suc f) (suc n) (x ∷ xs) h = let e : suc n - suc f ≡ n - f = omega arith in rw e (part-taken f n xs (omega arith))
-
--- a step over the same bytes
-pub steps-over : {img held bytes bytes' img' line out : List ℕ} {s : Step} → Steps img held bytes s img' line out → bytes ≡ bytes'
-    → Steps img held bytes' s img' line out
-steps-over p e = rw e at p
 
 -- no newline came
 pub steps_all : (img held bytes line out : List ℕ) (h : Held) → h.used ≡ length bytes → Holds held bytes h line
@@ -163,3 +152,6 @@ steps-line img held bytes line img' out h n e p r =
         performed = r.image;
       };
     }
+
+-- what is known of steps
+pub ruleset stepped = (steps_all, steps-line, part-taken)

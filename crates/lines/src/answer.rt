@@ -3,7 +3,6 @@
 ghost use Rattle.std.specs.Prelude.{◌≡◌, ◌≤◌, length, take};
 ghost use Rattle.lines.specs.Steps.Turns.{Room, Replies, Ends};
 
-use frame::Printed;
 use frame::perform::frame;
 
 // A line without its newline; how many bytes of text stand in `out`.
@@ -11,10 +10,7 @@ pub(crate) fn answer(image: &mut [u8], line: &[u8], out: &mut [u8]) -> usize
     requires { (length image.old ≡ 2240) × (length out.old ≡ 29397) }
     ensures { Replies line.now image.old result image.new out.new }
 {
-    let Printed::Text(n) = frame(image, line, out) else {
-        return 0;
-    };
-    n
+    frame(image, line, out).unwrap_or(0)
 }
 
 // The input has ended: "a last line needs no newline".

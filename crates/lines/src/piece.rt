@@ -14,10 +14,11 @@ pub fn start(image: &mut [u8])
     requires { length image.old ≡ 2240 }
     ensures { image.new ≡ start_image }
 {
-    fresh(image);
+    let _ = fresh(image);
 }
 
 // One step: of the buffer's first `n` bytes those from `from` on are to be taken in, after `held` bytes of a line.
+#[tactic(auto, using(crate::proofs::TurnLaws::stepped))]
 pub fn step(
     image: &mut [u8],
     buffer: &[u8],
@@ -35,6 +36,7 @@ pub fn step(
 }
 
 // The same on the bytes alone.
+#[tactic(auto, using(crate::proofs::TurnLaws::stepped))]
 fn take_line(image: &mut [u8], bytes: &[u8], line: &mut [u8], held: usize, out: &mut [u8]) -> Step
     requires { Room image.old line.old held out.old }
     ensures { Steps image.old (take held line.old) bytes.now result image.new line.new out.new }

@@ -25,13 +25,11 @@ use Rattle.buckets.proofs.CarryLaws.{below-carrying}
 use Rattle.image.specs.Steps.ImageReads.{FrontIn, FrontRead, BothRead}
 use Rattle.image.specs.Steps.Listed.{Listed}
 use Rattle.image.proofs.ImageReadLaws.{chosen-read, both-accepts}
-use Rattle.image.proofs.ListedLaws.{listed-fits, listed-joined, carrying-room, carrying-order}
-use Rattle.listing.specs.Steps.Listings.{bag_at, behind_in, members_in, MembersRead, CountSays, Parts, joined}
-use Rattle.listing.specs.declared.MemberCount.{MemberCount}
-use Rattle.listing.specs.declared.MemberCount.TheVariants as M
+use Rattle.image.proofs.ListedLaws.{listed-fits, listed_same, listed-joined, carrying-room, carrying-order}
+use Rattle.listing.specs.Steps.Listings.{bag_at, behind_in, members_in, MembersRead, Parts, joined}
 
 -- what is left of a list behind n members
-pub rest-length : (n : ℕ) (xs : List ℕ) → length (take (length xs - n) (drop n xs)) ≡ length xs - n
+rest-length : (n : ℕ) (xs : List ℕ) → length (take (length xs - n) (drop n xs)) ≡ length xs - n
 rest-length n xs = let d = length-drop n xs in length-take-le (length xs - n) (drop n xs) (omega (arith, d))
 
 -- two lists that were written one behind the other, merged
@@ -94,18 +92,29 @@ module _ {L : Layout} {B f : ℕ} {img : List ℕ} (both : BothRead L B f img) w
   pub overflow-room : length (overflow_in L B f img) ≤ most_behind L
   overflow-room = omega (arith, length-added_all (bag_in L B f true img) (bag_in L B f false img), bag-room true, bag-room false)
 
--- both bags, listed where the choices lead to, one behind the other
-module _ {L : Layout} {B f : ℕ} {img : List ℕ} (both : BothRead L B f img) {w v : Overflow} (first : Leads true B f w) (second : Leads false B f v)
-    {old mid last : List ℕ} {n m : ℕ} (l : Listed (bag_at L B w img) old n mid) (s : length mid ≡ length old)
-    (k : Listed (bag_at L B v img) (take (length mid - n) (drop n mid)) m last) where
-  pub bags-room : n + m ≤ most_behind L
-  bags-room = omega (arith, (bag-listed first L img l).many, (bag-listed second L img k).many, bag-room both true, bag-room both false)
+-- First(f), listed where its choice leads to, leaves room for Second(f)
+module _ {L : Layout} {B f : ℕ} {img : List ℕ} (both : BothRead L B f img) {w : Overflow} (first : Leads true B f w) {old mid : List ℕ} {n : ℕ}
+    (l : Listed (bag_at L B w img) old n mid) (room : most_behind L ≤ length old) where
+  pub first-few : n ≤ L.back_slots
+  first-few = omega (arith, (bag-listed first L img l).many, bag-room both true)
 
-  pub bags-parts : Parts (put_mid n (length mid - n) mid last) n (n + m)
-  bags-parts = listed-parts (bag-listed first L img l) s (bag-listed second L img k) (bag-order both true) (bag-order both false)
+  first-same : length mid ≡ length old
+  first-same = listed_same l (omega (arith, first-few))
 
-  pub bags-merged : {new : List ℕ} → new ≡ joined (put_mid n (length mid - n) mid last) n (n + m) → Listed (overflow_in L B f img) old (n + m) new
-  bags-merged j = listed-merged (bag-listed first L img l) s (bag-listed second L img k) j
+  pub first-rest : L.back_slots ≤ length (take (length mid - n) (drop n mid))
+  first-rest = omega (arith, rest-length n mid, first-same, first-few)
+
+  -- and Second(f) behind it
+  module _ {v : Overflow} (second : Leads false B f v) {last : List ℕ} {m : ℕ} (k : Listed (bag_at L B v img) (take (length mid - n) (drop n mid)) m last)
+    where
+      pub bags-room : n + m ≤ most_behind L
+      bags-room = omega (arith, first-few, (bag-listed second L img k).many, bag-room both false)
+
+      pub bags-parts : Parts (put_mid n (length mid - n) mid last) n (n + m)
+      bags-parts = listed-parts (bag-listed first L img l) first-same (bag-listed second L img k) (bag-order both true) (bag-order both false)
+
+      pub bags-merged : {new : List ℕ} → new ≡ joined (put_mid n (length mid - n) mid last) n (n + m) → Listed (overflow_in L B f img) old (n + m) new
+      bags-merged j = listed-merged (bag-listed first L img l) first-same (bag-listed second L img k) j
 
 -- ---- the members of a front bucket that was read
 
@@ -126,17 +135,28 @@ module _ {L : Layout} {B f : ℕ} {img : List ℕ} (r : MembersRead L B f img) w
   unfolding members_in
   members-full h = rw (behind-full h).0
 
-  -- those of a full front bucket, and those behind it behind them
-  module _ (full : L.front_slots ≤ length (in_front L f img)) {old mid last : List ℕ} {n m : ℕ} (l : Listed (in_front L f img) old n mid)
-      (s : length mid ≡ length old) (k : Listed (overflow_in L B f img) (take (length mid - n) (drop n mid)) m last) where
-    pub members-fit : n + m ≤ most_members L
-    members-fit = omega (arith, l.many, k.many, r.front.list.room, overflow-room (behind-full full).1)
+  -- those of a full front bucket leave room for those behind it
+  module _ (full : L.front_slots ≤ length (in_front L f img)) {old mid : List ℕ} {n : ℕ} (l : Listed (in_front L f img) old n mid)
+      (room : most_members L ≤ length old) where
+    pub front-few : n ≤ L.front_slots
+    front-few = omega (arith, l.many, r.front.list.room)
 
-    pub members-parts : Parts (put_mid n (length mid - n) mid last) n (n + m)
-    members-parts = listed-parts l s k r.front.list.order (overflow-order (behind-full full).1)
+    front-same : length mid ≡ length old
+    front-same = listed_same l (omega (arith, front-few))
 
-    pub members-merged : {new : List ℕ} → new ≡ joined (put_mid n (length mid - n) mid last) n (n + m) → Listed (members_in L B f img) old (n + m) new
-    members-merged j = rw (members-full full) (listed-merged l s k j)
+    pub front-rest : most_behind L ≤ length (take (length mid - n) (drop n mid))
+    front-rest = omega (arith, rest-length n mid, front-same, front-few)
+
+    -- and those behind them
+    module _ {last : List ℕ} {m : ℕ} (k : Listed (overflow_in L B f img) (take (length mid - n) (drop n mid)) m last) where
+      pub members-fit : n + m ≤ most_members L
+      members-fit = omega (arith, front-few, k.many, overflow-room (behind-full full).1)
+
+      pub members-parts : Parts (put_mid n (length mid - n) mid last) n (n + m)
+      members-parts = listed-parts l front-same k r.front.list.order (overflow-order (behind-full full).1)
+
+      pub members-merged : {new : List ℕ} → new ≡ joined (put_mid n (length mid - n) mid last) n (n + m) → Listed (members_in L B f img) old (n + m) new
+      members-merged j = rw (members-full full) (listed-merged l front-same k j)
 
   -- what holds of nothing and of First(f) and Second(f) holds of those that count
   either : (P : List ℕ → Type 0) → P [] → (BothRead L B f img → P (overflow_in L B f img)) → P (behind_in L B f img)
@@ -203,14 +223,6 @@ module _ {L : Layout} {f : ℕ} {img : List ℕ} (front : FrontRead L f img) whe
       → members_at L B f img ≡ refused 3 i
   unfolding members_at
   counting-unsound B h e = rw (front.accepts, le-ltb (length (in_front L f img)) L.front_slots h, e)
-
--- what a count said
-module _ (L : Layout) (B f : ℕ) (img : List ℕ) {r : MemberCount} (said : CountSays L B f img r) where
-  pub count-members : {n : ℕ} → r ≡ M.Members n → MembersRead L B f img × (length (members_in L B f img) ≡ n)
-  count-members e = rw e at said
-
-  pub count-refused : {i : ℕ} → r ≡ M.Unsound i → members_at L B f img ≡ refused 3 i
-  count-refused e = rw e at said
 
 -- a front bucket of an image has a number that every fingerprint allows
 pub front-small : {B f : ℕ} {img : List ℕ} → FrontIn B f img → f < fronts 65536

@@ -1,5 +1,5 @@
 -- Two ascending lists together, head by head: the next member of `added_all` is the smaller of the two heads; and lists written member by member.
--- Main results: `merging-on`, a turn of a merge of two lists, and `merging-end`; `copying-on`, a turn of a copy; `parts-order`, two parts in order are one
+-- Main results: `merging-on`, a turn of a merge of two lists, and `merging-end`; `parts-order`, two parts in order are one
 -- already, and `copy-merged`, they are one once merged; `mapped-on`, a turn of a list whose members are turned into others.
 use mathlib.Core.Path.{◌≡◌, refl, sym, ap, ◌∙◌}
 use mathlib.Core.Logic.{◌⊎◌, inl, inr}
@@ -84,10 +84,6 @@ written_on k v all rest old out h l e d = (
   rw (drop-set-lt (k + 1) out k v (omega arith), ← drop-drop 1 k out, ← drop-drop 1 k old, d),
 )
 
--- all of `all` stands, and the rest is as it was
-written_all : (k : ℕ) (all old out : List ℕ) → all ≡ take k out ++ [] → drop k out ≡ drop k old → out ≡ all ++ drop k old
-written_all k all old out e d = sym (take-append-drop k out) ∙ rw (d, e, append-nil)
-
 -- a merge of `a` and `b` over `old`, at i members of `a` and j of `b` done
 pub record Merging (a b old out : List ℕ) (i j : ℕ) : Type 0 where
   pub left : i ≤ length a
@@ -151,34 +147,7 @@ merging-end {a} {b} {old} {out} {i} {j} {next} {new} m room p none e f =
     f.stands ∙ rw (first, behind) (ap (λ (l : List ℕ). l ++ drop (length a + length b) old)
     (append_assoc (take (i + j) out) (drop i a) (drop j b) ∙ sym (m.stands ∙ rw (merged-rest a b i j p none))))
 
--- a copy of `keys` from one on over `old` from `at` on, at k members done
-pub record Copying (keys old out : List ℕ) (from at k : ℕ) : Type 0 where
-  pub within : from + k ≤ length keys
-  pub same : length out ≡ length old
-  pub stands : take at old ++ drop from keys ≡ take (at + k) out ++ drop (from + k) keys
-  pub behind : drop (at + k) out ≡ drop (at + k) old
-
-pub copying-start : (keys old : List ℕ) (from at : ℕ) → from ≤ length keys → Copying keys old old from at 0
-copying-start keys old from at h =
-    let x : at + 0 ≡ at = omega arith in
-    let y : from + 0 ≡ from = omega arith in
-    record { within = omega arith; same = refl; stands = rw (x, y); behind = refl }
-
-pub copying-on : {keys old out : List ℕ} {from at k : ℕ} → Copying keys old out from at k → from + k < length keys → at + k < length old
-    → Copying keys old (set out (at + k) (get_or keys (from + k) 0)) from at (k + 1)
-copying-on {keys} {old} {out} {from} {at} {k} m h l =
-    let w = written_on (at + k) (get_or keys (from + k) 0) (take at old ++ drop from keys) (drop (suc (from + k)) keys) old out (omega (arith, m.same)) m.same
-    (m.stands ∙ rw (drop-cons keys (from + k) 0 h)) m.behind in
-    let x : at + (k + 1) ≡ at + k + 1 = omega arith in
-    let y : from + (k + 1) ≡ suc (from + k) = omega arith in
-    record { within = omega arith; same = w.0; stands = rw (x, y) w.1; behind = rw x w.2 }
-
-pub copying-end : {keys old out : List ℕ} {from at k : ℕ} → Copying keys old out from at k → length keys - from ≤ k → Copied keys from old at out
-copying-end {keys} {old} {out} {from} {at} {k} m h =
-    let e : k ≡ length keys - from = omega (arith, m.within) in
-    let none : length keys ≤ from + k = omega arith in
-    record { stands = rw (← e) (written_all (at + k) (take at old ++ drop from keys) old out (m.stands ∙ rw (drop_of_length-le keys none)) m.behind) }
-
+-- a copy leaves the length as it was
 pub copied-length : {keys old new : List ℕ} {from at : ℕ} → Copied keys from old at new → from ≤ length keys → at + (length keys - from) ≤ length old
     → length new ≡ length old
 copied-length {keys} {old} {new} {from} {at} e h l = omega (

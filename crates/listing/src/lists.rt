@@ -7,7 +7,7 @@ ghost use Rattle.crumbmap.specs.Layouts.{layout1, most_members};
 use crumbmap::layout::MOST_MEMBERS;
 
 // The keys of both lists, ascending, into the start of `out`. Which list gives the next key cannot be foretold, so no branch asks for it while both
-// have keys left.
+// have keys left. Each list is counted by an index of its own, since a turn goes on in one of them alone.
 pub fn merge_into(a: &[u32], b: &[u32], out: &mut [u32])
     requires { Mergeable a.now b.now (length out.old) }
     ensures { Merged a.now b.now out.old out.new }
@@ -46,11 +46,7 @@ fn copy_rest(keys: &[u32], from: usize, out: &mut [u32], at: usize)
     ensures { Copied keys.now from out.old at out.new }
 {
     let n = keys.len() - from;
-    let mut k = 0;
-    while k < n {
-        out[at + k] = keys[from + k];
-        k += 1;
-    }
+    out[at..at + n].copy_from_slice(&keys[from..]);
 }
 
 // Two ascending parts of a list, one behind the other, become one. Mostly they are in order as they stand.

@@ -9,40 +9,30 @@ ghost use Rattle.image.specs.Steps.ImageReads.{FrontIn, BagRead};
 ghost use Rattle.image.specs.Steps.Listed.{Listed};
 ghost use Rattle.listing.specs.Steps.Listings.{bag_at, members_in, BackyardRead, MembersRead, CountSays};
 
-use crate::MemberCount;
 use crate::lists::merge_parts;
+use answers::UnsoundBucket;
 use crumbmap::layout::{BACK_SLOTS, FRONT_SLOTS};
 use crumbmap::map::{first_of, second_of, ways_of};
 use crumbmap::{Front, Overflow};
-use image::BackyardReading;
 use image::back::read_backyard;
 use image::front::sound_front_at;
 use image::place::{back_bucket, bucket};
-use minifilter::Reading;
 use search::find::count_front;
 use search::list::{count_carrying, list_carrying, list_front};
 
 // How many members a front bucket has.
-pub fn count_members(image: &[u8], size: usize, front: Front) -> MemberCount
+pub fn count_members(image: &[u8], size: usize, front: Front) -> Result<usize, UnsoundBucket>
     requires { FrontIn size front.0 image.now }
     ensures { CountSays layout1 size front.0 image.now result }
 {
-    let Reading::Members(n, _) = sound_front_at(image, front) else {
-        return MemberCount::Unsound(front.0);
-    };
-    if n < FRONT_SLOTS {
-        return MemberCount::Members(n);
+    let reading = sound_front_at(image, front)?;
+    if reading.members < FRONT_SLOTS {
+        return Ok(reading.members);
     }
-    match read_backyard(image, size, front, ways_of(front, size), 0) {
-        BackyardReading::Unsound(table) => MemberCount::Unsound(table),
-        BackyardReading::Sound(a, b) => {
-            let first = count_bag(image, size, a.way);
-            let second = count_bag(image, size, b.way);
-            let near = n + first;
-            let all = near + second;
-            MemberCount::Members(all)
-        }
-    }
+    let (a, b) = read_backyard(image, size, front, ways_of(front, size), 0)?;
+    let first = count_bag(image, size, a.way);
+    let second = count_bag(image, size, b.way);
+    Ok(reading.members + first + second)
 }
 
 // How many First(f) and Second(f) have together.

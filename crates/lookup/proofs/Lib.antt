@@ -1,4 +1,3 @@
 -- Laws of the steps of ask and count.
-pub mod FrontSteps
 pub mod AskSteps
 pub mod CountSteps

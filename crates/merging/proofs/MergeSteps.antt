@@ -1,7 +1,7 @@
 -- The steps of a merge: the tails of its sources; for any layout, one front bucket after the other into a fresh target, and what ends the merge
 -- before or on the way. Main results: `told_of`; `fronts-start`, `fronts-merging`, `fronts-on`, `fronts-full` and `fronts-end`; `merged-left`,
 -- `fill-accepted`, `fill-full`; `check-refuses`.
-use mathlib.Core.Path.{◌≡◌, refl, sym, ◌∙◌}
+use mathlib.Core.Path.{◌≡◌, refl, sym, ◌∙◌, ap}
 use Prim.Native.Nat.{ℕ, suc, ◌+◌, ◌-◌, ◌≤◌, ◌<◌}
 use mathlib.Core.Bool.{Bool, true, false, cond}
 use mathlib.Core.List.{List, [], ◌++◌}
@@ -11,11 +11,12 @@ use native.Mathlib.Nat.{sub-zero}
 use native.Mathlib.Omega.{arith}
 use lib.ListN.{length, take, drop, get_or, length-append, length-drop}
 use lib.Dec.{eqb}
+use Rattle.std.specs.Prelude as S
 use Rattle.multiset.specs.Multisets.{Below}
 use Rattle.multiset.proofs.MultisetLaws.{copies-none}
 use Rattle.crumbmap.specs.Layouts.{Layout, layout1, Numbering, known, keys, fronts, backyards}
 use Rattle.buckets.specs.Buckets.{Fits64}
-use Rattle.machine.specs.Results.{Result, accepted, refused, and_then}
+use Rattle.machine.specs.Results.{Result, accepted, refused, and_then, number}
 use Rattle.machine.specs.Images.{in_front, empty_image}
 use Rattle.machine.specs.Machine.{members_at}
 use Rattle.machine.specs.Merges.{insert_all, merge_from}
@@ -28,11 +29,10 @@ use Rattle.form.specs.Tails.{Header, body, mark_of, members, headed}
 use Rattle.form.specs.Calls.{fresh_of, checked_by, merged_by, merge_sized_of, target_of}
 use Rattle.form.proofs.TailLaws.{length-body, headed-parts}
 use Rattle.form.proofs.MoveLaws.{checked-parts}
-use Rattle.answers.specs.Answers.{numbered, refusal, Leaves}
+use Rattle.answers.specs.Answers.{numbered, refusal, outcome_of, blank, Leaves}
 use Rattle.answers.specs.declared.Refusal.{Refusal}
 use Rattle.answers.specs.declared.Refusal.TheVariants.{Full}
-use Rattle.answers.specs.declared.Outcome.{Outcome}
-use Rattle.answers.specs.declared.Outcome.TheVariants as D
+use Rattle.answers.proofs.PairLaws.{refusal-number}
 use Rattle.image.specs.Steps.ImageReads.{Whole}
 use Rattle.image.proofs.ImageReadLaws.{whole-sized, whole-alike}
 use Rattle.tails.specs.Steps.Openings.{header_of}
@@ -156,13 +156,18 @@ module _ (layouts : Numbering) {L : Layout} (n : ℕ) (there : layouts n ≡ som
   unfolding fresh_of
   fresh-whole img w = rw (whole-sized w, there)
 
+  -- and it is not refused
+  pub fresh-taken : {B : ℕ} (img : List ℕ) (why : Refusal) → Whole B (body img) → outcome_of (S.Err why) ≡ blank (fresh_of layouts n img) → ⊥
+  unfolding fresh_of
+  fresh-taken img why w e = let z : number (refusal {A = Unit {0}} why) ≡ 0 = rw (whole-sized w, there) at (ap number e) in omega (arith, refusal-number (Unit {0}) why)
+
   -- the target of a merge, by the layout of the first source and by the target's size
   pub target_left : (B : ℕ) (a old : List ℕ) → mark_of a ≡ n → Whole B (body old) → (m : Result (List ℕ))
       → target_of layouts a m old ≡ left_of (fresh_form L n B) m old
   target_left B a old e w m = rw (e, fresh-whole old w)
 
 -- a merge of two images whose tails were read is that of their bodies
-pub merged-left : (B : ℕ) (a b old : List ℕ) {t s u v : ℕ} {r : Outcome} {new : List ℕ} → headed known B a ≡ accepted (header_of B t u)
+pub merged-left : (B : ℕ) (a b old : List ℕ) {t s u v : ℕ} {r : S.Result (Unit {0}) Refusal} {new : List ℕ} → headed known B a ≡ accepted (header_of B t u)
     → headed known B b ≡ accepted (header_of B s v) → Whole B (body old)
     → MergesInto layout1 1 B (merged_by (header_of B t 0) (header_of B s 0) (body a) (body b)) old r new
     → Leaves (merge_sized_of known B a b) (target_of known a (merge_sized_of known B a b) old) r new
@@ -178,10 +183,10 @@ still-whole old now w e =
 -- the body took all, or was full on the way
 module _ (L : Layout) (n B total : ℕ) (a b old : List ℕ) (t : Bool) (now : List ℕ)
     (told : reached t now ≡ merge_from L B (fronts B) 0 a b (empty_image L B)) where
-  pub fill-accepted : t ≡ true → {new : List ℕ} → new ≡ anew L n total now → MergesInto L n B (both_merged L n B total a b) old D.Accepted new
+  pub fill-accepted : t ≡ true → {new : List ℕ} → new ≡ anew L n total now → MergesInto L n B (both_merged L n B total a b) old (S.Ok tt) new
   fill-accepted e p = rw (reached-all t now told e) record { answer = refl; bytes = p }
 
-  pub fill-full : t ≡ false → {new : List ℕ} → new ≡ fresh_form L n B → MergesInto L n B (both_merged L n B total a b) old (D.Refused Full) new
+  pub fill-full : t ≡ false → {new : List ℕ} → new ≡ fresh_form L n B → MergesInto L n B (both_merged L n B total a b) old (S.Err Full) new
   fill-full e p = rw (reached-full t now told e) record { answer = refl; bytes = p }
 
 -- ---- what check refuses
@@ -211,7 +216,7 @@ check-number h b =
 
 -- a refused check ends the merge, and the target is kept
 pub check-refuses : (h : Header) (b fresh old : List ℕ) {why : Refusal} (k : Unit {0} → Result (List ℕ)) → checked_by h b ≡ refusal why
-    → Leaves (and_then (checked_by h b) k) (left_of fresh (and_then (checked_by h b) k) old) (D.Refused why) old
+    → Leaves (and_then (checked_by h b) k) (left_of fresh (and_then (checked_by h b) k) old) (S.Err why) old
 check-refuses h b fresh old {why} k e =
     let w = numbered why in
     rw e record { answer = refl; bytes = rw (check-number h b w.0 w.1 e) }

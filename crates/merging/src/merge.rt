@@ -15,13 +15,11 @@ ghost use Rattle.spill.specs.Steps.Settling.{reached};
 ghost use Rattle.joining.specs.Steps.Joins.{Sources, Scratch};
 ghost use Rattle.merging.specs.Steps.Targets.{Told, MergesInto, both_merged};
 
-use answers::{Outcome, Refusal};
+use answers::Refusal;
 use crumbmap::Front;
 use crumbmap::layout::MOST_MEMBERS;
-use image::Size;
 use image::fresh::clear_all;
 use joining::join::merge_front;
-use tails::TailReading;
 use tails::fresh::fresh;
 use tails::open::{form_size, tail_at};
 use tails::tail::start_tail;
@@ -29,40 +27,32 @@ use validation::check::check_total;
 use words::select::entries;
 
 // The members of two images into a third.
-pub fn merge<'a>(first: &'a [u8], second: &'a [u8], target: &mut [u8]) -> Outcome
+pub fn merge<'a>(first: &'a [u8], second: &'a [u8], target: &mut [u8]) -> Result<(), Refusal>
     ensures { Merges first.now second.now target.old result target.new }
 {
-    let Size::Buckets(size) = form_size(first.len()) else {
-        return Outcome::Refused(Refusal::WrongLength);
-    };
-    let Size::Buckets(other) = form_size(second.len()) else {
-        return Outcome::Refused(Refusal::WrongLength);
-    };
-    let Size::Buckets(into) = form_size(target.len()) else {
-        return Outcome::Refused(Refusal::WrongLength);
-    };
-    if size != other {
-        return Outcome::Refused(Refusal::LengthsDiffer);
-    }
-    if size != into {
-        return Outcome::Refused(Refusal::LengthsDiffer);
+    let size = form_size(first.len()).ok_or(Refusal::WrongLength)?;
+    let other = form_size(second.len()).ok_or(Refusal::WrongLength)?;
+    let into = form_size(target.len()).ok_or(Refusal::WrongLength)?;
+    if size != other || size != into {
+        return Err(Refusal::LengthsDiffer);
     }
     merge_sized(first, second, size, target)
 }
 
 // Both tails are read before either source is checked whole.
-fn merge_sized<'a>(first: &'a [u8], second: &'a [u8], size: usize, target: &mut [u8]) -> Outcome
+fn merge_sized<'a>(
+    first: &'a [u8],
+    second: &'a [u8],
+    size: usize,
+    target: &mut [u8],
+) -> Result<(), Refusal>
     requires { Whole size (body first.now) × Whole size (body second.now) × Whole size (body target.old) }
     ensures { Leaves (merge_sized_of known size first.now second.now)
         (target_of known first.now (merge_sized_of known size first.now second.now) target.old)
         result target.new }
 {
-    let TailReading::Good(mine) = tail_at(first, size) else {
-        return Outcome::Refused(Refusal::BadTail);
-    };
-    let TailReading::Good(theirs) = tail_at(second, size) else {
-        return Outcome::Refused(Refusal::BadTail);
-    };
+    let mine = tail_at(first, size).ok_or(Refusal::BadTail)?;
+    let theirs = tail_at(second, size).ok_or(Refusal::BadTail)?;
     let end = first.len() - 64;
     merge_told(
         &first[..end],
@@ -82,18 +72,14 @@ fn merge_told<'a>(
     mine: u64,
     theirs: u64,
     target: &mut [u8],
-) -> Outcome
+) -> Result<(), Refusal>
     requires { Told layout1 size mine first.now × Told layout1 size theirs second.now × Whole size (body target.old) }
     ensures { MergesInto layout1 1 size (merged_by (header_of size mine 0) (header_of size theirs 0) first.now second.now)
         target.old result target.new }
 {
-    match check_total(first, size, mine) {
-        Outcome::Refused(why) => Outcome::Refused(why),
-        Outcome::Accepted => match check_total(second, size, theirs) {
-            Outcome::Refused(why) => Outcome::Refused(why),
-            Outcome::Accepted => merge_checked(first, second, size, mine + theirs, target),
-        },
-    }
+    check_total(first, size, mine)?;
+    check_total(second, size, theirs)?;
+    merge_checked(first, second, size, mine + theirs, target)
 }
 
 // Two checked bodies into a target, whatever its bytes were. "4; kept, but a merge's target is fresh."
@@ -103,7 +89,7 @@ fn merge_checked<'a>(
     size: usize,
     total: u64,
     target: &mut [u8],
-) -> Outcome
+) -> Result<(), Refusal>
     requires { Sources layout1 size first.now second.now × Whole size (body target.old) }
     ensures { MergesInto layout1 1 size (both_merged layout1 1 size total first.now second.now)
         target.old result target.new }
@@ -111,10 +97,10 @@ fn merge_checked<'a>(
     let end = target.len() - 64;
     if merge_bodies(first, second, size, &mut target[..end]) {
         start_tail(&mut target[end..], total);
-        return Outcome::Accepted;
+        return Ok(());
     }
-    fresh(target);
-    Outcome::Refused(Refusal::Full)
+    fresh(target)?;
+    Err(Refusal::Full)
 }
 
 // Two checked bodies into a body that becomes fresh, until it is full.
@@ -149,13 +135,10 @@ fn merge_fronts<'a>(
     ensures { reached result target.new
         ≡ merge_from layout1 size (fronts size) 0 first.now second.now target.old }
 {
-    let end = 8 * size;
-    let mut f = 0;
-    while f < end {
+    for f in 0..8 * size {
         if !merge_front(table, first, second, size, Front(f), target, a, b, over) {
             return false;
         }
-        f += 1;
     }
     true
 }

@@ -10,6 +10,7 @@ use lib.ListN.{length, take, drop, get_or, drop_of_length-le}
 use lib.Seq.{drop-cons, drop-drop}
 use lib.Dec.{eqb, eqb-suc-zero}
 use borrow.Author.Tests.{eqb-true, eq-eqb}
+use Rattle.std.specs.Prelude as S
 use Rattle.multiset.specs.Multisets.{ascending, all_zero, below, Below}
 use Rattle.multiset.specs.Digits.{digits, spread, joined}
 use Rattle.crumbmap.specs.Layouts.{Layout, layout1}
@@ -19,7 +20,6 @@ use Rattle.buckets.specs.Buckets.{Fits64, given, is_some, valid, slot_keys, crum
 use Rattle.minifilter.specs.Steps.Readings.{reading_of}
 use Rattle.minifilter.specs.Steps.Slots.{slot_list, marked}
 use Rattle.minifilter.specs.declared.Reading.{Reading}
-use Rattle.minifilter.specs.declared.Reading.TheVariants.{Members, Unsound}
 use Rattle.multiset.proofs.DigitLaws.{length-joined, length-joined-min}
 use Rattle.crumbmap.proofs.MarkLaws.{ones_in}
 use Rattle.buckets.proofs.PieceLaws.{all_zero-split, spread-drop}
@@ -37,8 +37,8 @@ valid-joined B j (x ∷ xs) (c ∷ cs) h =
     let e : (x * 16 + c) % 16 ≡ c % 16 = omega arith in
     rw (e, valid-joined B j xs cs (omega arith))
 
-reading-decide : (g : Reading → Reading) → g Unsound ≡ Unsound → (x : ℕ) (a z q v : Bool) (ys : List ℕ)
-    → g (Members (length ys) (below x ys)) ≡ count_if (q && v) (length ys) (below x ys)
+reading-decide : (g : S.Option Reading → S.Option Reading) → g S.None ≡ S.None → (x : ℕ) (a z q v : Bool) (ys : List ℕ)
+    → g (S.Some (record { members = length ys; below = below x ys })) ≡ count_if (q && v) (length ys) (below x ys)
     → reading_of x (given a (given (z && q) (given v (some ys)))) ≡ g (count_if (a && z) (length ys) (below x ys))
 unfolding given
 reading-decide g u x false z q v ys e = sym u
@@ -53,9 +53,9 @@ module _ (L : Layout) where
   unused_zero b = all_zero (drop L.back_slots (crumbs_in L b))
 
   -- what is left to ask of a backyard bucket whose word and slots are sound: those, and the crumbs of its members
-  abbrev pub back_reading : ℕ → ℕ → List ℕ → Reading → Reading
-  back_reading B j b Unsound = Unsound
-  back_reading B j b (Members n k) = count_if (unused_zero b && valid B j (take n (crumbs_in L b))) n k
+  abbrev pub back_reading : ℕ → ℕ → List ℕ → S.Option Reading → S.Option Reading
+  back_reading B j b S.None = S.None
+  back_reading B j b (S.Some r) = count_if (unused_zero b && valid B j (take r.members (crumbs_in L b))) r.members r.below
 
   pub reading-back : Fits64 L → (x B j : ℕ) (b : List ℕ) → length b ≡ 64
       → reading_of x (back_members L B j b) ≡ back_reading B j b (reading_of x (slot_list L true b))
@@ -81,20 +81,20 @@ module _ (L : Layout) where
           (reading-decide (back_reading B j b) refl x (ascending ys) z (unused_zero b) (valid B j ys) ys (rw v))
 
   -- the members of a backyard reading are at most its slots
-  pub reading-room : (x n k : ℕ) (b : List ℕ) → reading_of x (slot_list L true b) ≡ Members n k → n ≤ L.back_slots
+  pub reading-room : (x : ℕ) (b : List ℕ) {r : Reading} → reading_of x (slot_list L true b) ≡ S.Some r → r.members ≤ L.back_slots
   unfolding slot_list bind
-  reading-room x n k b e = go (slot_keys L L.back_slots b) (λ xs f. slot_keys-short L L.back_slots b xs f) e
+  reading-room x b {r = r} e = go (slot_keys L L.back_slots b) (λ xs f. slot_keys-short L L.back_slots b xs f) e
     where
       cs : List ℕ
       cs = crumbs_in L b
 
-      inner : (t : Bool) (m j : ℕ) → m ≤ L.back_slots → count_if t m j ≡ Members n k → n ≤ L.back_slots
-      inner true m j r f = let s : m ≡ n = cc in omega arith
-      inner false m j r f = let z : ◌≡◌ {A = ℕ} 0 1 = cc in absurd (omega arith)
+      inner : (t : Bool) (m j : ℕ) → m ≤ L.back_slots → count_if t m j ≡ S.Some r → r.members ≤ L.back_slots
+      inner true m j h f = let s : record { members = m; below = j } ≡ r = cc in let t : m ≡ r.members = ap (λ (k : Reading). k.members) s in omega arith
+      inner false m j h f = let z : ◌≡◌ {A = ℕ} 0 1 = cc in absurd (omega arith)
 
       go : (o : Option (List ℕ)) → ((xs : List ℕ) → o ≡ some xs → length xs ≤ L.back_slots)
           → reading_of x (bind o (λ xs. given (ascending (joined 16 xs cs) && all_zero (drop (length xs) (take L.back_slots cs))) (some (joined 16 xs cs))))
-          ≡ Members n k → n ≤ L.back_slots
+          ≡ S.Some r → r.members ≤ L.back_slots
       go none short f = let z : ◌≡◌ {A = ℕ} 0 1 = cc in absurd (omega arith)
       go (some xs) short f =
           let t : Bool = ascending (joined 16 xs cs) && all_zero (drop (length xs) (take L.back_slots cs)) in

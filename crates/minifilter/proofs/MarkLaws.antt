@@ -10,8 +10,13 @@ use native.Mathlib.Omega.{arith}
 use lib.Dec.{eqb}
 use borrow.Author.Tests.{eq-eqb, ne_eqb}
 use lib.Bits.{bit_or, or_shifted_r}
+use lib.Pow.{pow_mono}
 use lib.Count.{count_trailing_zeros}
 use Rattle.minifilter.specs.Steps.Marks.{marks_of}
+
+-- 2, n places up
+pub two-shifted : (n : ℕ) → n < 31 → 2 * 2 ^ n % 2 ^ 32 ≡ 2 ^ suc n
+two-shifted n h = omega (arith, pow-succ' 2 n, pow_mono {i = n} {j = 30} (omega arith))
 
 module _ (f : ℕ → ℕ) (t : ℕ) where
   -- one mark
@@ -157,10 +162,10 @@ module _ (f : ℕ → ℕ) (t : ℕ) where
       next (suc n) p q z = omega (arith, mark-yes i e, mark-yes (suc i) (rw (add-one i) at q))
 
   -- all marks, from 2 on, with one more number looked at
-  pub marks-hit : (n : ℕ) {marks : ℕ} → marks ≡ 2 * marks_of f t 0 n → f n ≡ t → bit_or marks (2 ^ suc n) ≡ 2 * marks_of f t 0 (n + 1)
-  marks-hit n {marks} e h =
+  pub marks-hit : (n : ℕ) {marks : ℕ} → n < 31 → marks ≡ 2 * marks_of f t 0 n → f n ≡ t → bit_or marks (2 * 2 ^ n % 2 ^ 32) ≡ 2 * marks_of f t 0 (n + 1)
+  marks-hit n {marks} room e h =
       let small : marks < 2 ^ suc n = omega (arith, marks-lt 0 n, pow-succ' 2 n) in
-      ap (bit_or marks) (omega arith) ∙ or_shifted_r 1 (suc n) marks small
+      ap (bit_or marks) (two-shifted n room ∙ omega arith) ∙ or_shifted_r 1 (suc n) marks small
       ∙ rw (add-one n) (omega (arith, rw (mark-yes n h) at (marks-more 0 n n (omega arith)), pow-succ' 2 n))
 
   pub marks-miss : (n : ℕ) {marks : ℕ} → marks ≡ 2 * marks_of f t 0 n → (f n ≡ t → ⊥) → marks ≡ 2 * marks_of f t 0 (n + 1)

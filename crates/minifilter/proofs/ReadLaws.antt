@@ -10,16 +10,14 @@ use lib.ListN.{length, take, drop, replicate, drop_of_length-le}
 use lib.Seq.{drop-nil, take-nil}
 use lib.Count.{ones}
 use borrow.Author.Tests.{lt-leb, le-leb}
+use Rattle.std.specs.Prelude as S
 use Rattle.multiset.specs.Multisets.{ascending, all_zero, below, Below}
 use Rattle.multiset.specs.Digits.{joined}
 use Rattle.crumbmap.specs.Layouts.{Layout, tags, keys}
 use Rattle.buckets.specs.Buckets.{Fits64, given, slot_keys, slot_end, front_members}
 use Rattle.minifilter.specs.Steps.Readings.{reading_of}
 use Rattle.minifilter.specs.Steps.Slots.{slots_of, slot_crumbs, with_crumbs, end_of, bits_of, zeros_of, word_of, tags_of, minis_of, slot_minis, slot_members, in_order, order_of, slot_list}
-use Rattle.minifilter.specs.declared.Order.{Order}
-use Rattle.minifilter.specs.declared.Order.TheVariants as O
 use Rattle.minifilter.specs.declared.Reading.{Reading}
-use Rattle.minifilter.specs.declared.Reading.TheVariants.{Members, Unsound}
 use Rattle.multiset.proofs.DigitLaws.{length-joined, below-joined}
 use Rattle.buckets.proofs.WordLaws.{run-below, minis-none, minis-word, minis_in-run}
 use Rattle.buckets.proofs.SlotBytes.{below-tags_in, length-tags_in}
@@ -31,14 +29,14 @@ use Rattle.minifilter.proofs.PassLaws.{bits-room, ascending-zero, length-slot_cr
 -- ---- a reading by what was tested
 
 -- a member count n, and k of them below x, where a test holds
-abbrev pub count_if : Bool → ℕ → ℕ → Reading
-count_if true n k = Members n k
-count_if false n k = Unsound
+abbrev pub count_if : Bool → ℕ → ℕ → S.Option Reading
+count_if true n k = S.Some (record { members = n; below = k })
+count_if false n k = S.None
 
 -- the same by what the pass over the slots says
-abbrev pub order_reading : ℕ → Order → Reading
-order_reading n (O.Below k) = Members n k
-order_reading n O.Broken = Unsound
+abbrev pub order_reading : ℕ → S.Option ℕ → S.Option Reading
+order_reading n (S.Some k) = S.Some (record { members = n; below = k })
+order_reading n S.None = S.None
 
 reading-order : (t : Bool) (n x : ℕ) (ks : List ℕ) → count_if t n (below x ks) ≡ order_reading n (order_of t x ks)
 reading-order true n x ks = refl
@@ -98,7 +96,7 @@ module _ (L : Layout) (fits : Fits64 L) (b : List ℕ) (long : length b ≡ 64) 
 
   module _ (x w : ℕ) (crumbs : Bool) (word : w ≡ word_of L crumbs b) where
     -- "exactly 36 ones"
-    pub reading-unlike : (ones w ≡ L.minis → ⊥) → reading_of x (slot_list L crumbs b) ≡ Unsound
+    pub reading-unlike : (ones w ≡ L.minis → ⊥) → reading_of x (slot_list L crumbs b) ≡ S.None
     unfolding slot_list slot_keys bind
     reading-unlike h = rw (← word, minis-none (bits_of L crumbs) L.minis 0 w h)
 
@@ -120,7 +118,7 @@ module _ (L : Layout) (fits : Fits64 L) (b : List ℕ) (long : length b ≡ 64) 
       many-tags = length-tags_in L (slots_of L crumbs) b
 
       -- "members fit the slots"
-      pub reading-over : slots_of L crumbs < length ms → reading_of x (slot_list L crumbs b) ≡ Unsound
+      pub reading-over : slots_of L crumbs < length ms → reading_of x (slot_list L crumbs b) ≡ S.None
       unfolding slot_list slot_keys given bind
       reading-over h = rw (← word, minis-word (bits_of L crumbs) L.minis w small full, lt-leb (length ms) (slots_of L crumbs) h)
 

@@ -6,16 +6,9 @@ mod quick;
 pub mod read;
 pub mod slots;
 
-// What reading a bucket whole finds: "its member count, or unsound"; beside the count, how many members are below the one that is sought.
+// What reading a sound bucket whole finds: "its member count", and how many members are below the one that is sought.
 #[derive(Clone, Copy)]
-pub enum Reading {
-    Members(usize, usize),
-    Unsound,
-}
-
-// What a pass over all slots finds: how many are below the member that is sought, where they ascend.
-#[derive(Clone, Copy)]
-pub enum Order {
-    Below(usize),
-    Broken,
+pub struct Reading {
+    pub members: usize,
+    pub below: usize,
 }

@@ -23,23 +23,15 @@ const MARKS: u32 = 1 << (BACK_SLOTS as u32);
 // The zeros among a word's places 0 to 62, where the last place has one more.
 const ZEROS: u32 = 63 - MINIS;
 
-// A mark for each slot of a front bucket whose tag is above the next one's, 2 for the lowest. No slot ends the loop, so that many are compared at
-// once.
+// A mark for each slot of a front bucket whose tag is above the next one's, 2 for the lowest.
 fn falls(b: &[u8]) -> u32
     requires { length b.now ≡ 64 }
     ensures { result ≡ 2 * marks_of (fall_at layout1 b.now) 1 0 (layout1.front_slots - 1) }
 {
-    let mut marks: u32 = 0;
-    let mut mark: u32 = 2;
-    let mut slot: usize = 0;
-    while slot < LAST {
-        if slots::tag_of(b, slot + 1) < slots::tag_of(b, slot) {
-            marks |= mark;
-        }
-        mark = mark * 2;
-        slot += 1;
-    }
-    marks
+    slots::marks(
+        LAST,
+        |slot| slots::tag_of(b, slot + 1) < slots::tag_of(b, slot),
+    )
 }
 
 // The word has as many zeros as a front bucket has slots, and the bucket's slots pass. One function for both kinds, so that `borders` has one caller
@@ -78,17 +70,10 @@ fn rises(b: &[u8]) -> u32
     requires { length b.now ≡ 64 }
     ensures { result ≡ 2 * marks_of (rise_at layout1 b.now) 1 0 (layout1.back_slots - 1) }
 {
-    let mut marks: u32 = 0;
-    let mut mark: u32 = 2;
-    let mut slot: usize = 0;
-    while slot < BACK_LAST {
-        if slots::tag_of(b, slot) < slots::tag_of(b, slot + 1) {
-            marks |= mark;
-        }
-        mark = mark * 2;
-        slot += 1;
-    }
-    marks
+    slots::marks(
+        BACK_LAST,
+        |slot| slots::tag_of(b, slot) < slots::tag_of(b, slot + 1),
+    )
 }
 
 // Tags rise from each member but the last of a mini-bucket, so that no crumbs need be compared. Those past the members are 0: the first is, and

@@ -1,8 +1,9 @@
 // What stands at a slot: its tag, and in a backyard bucket its crumb; where tags and crumbs begin.
 
-ghost use Rattle.std.specs.Prelude.{◌≡◌, ◌<◌, false, length};
+ghost use Rattle.std.specs.Prelude.{◌≡◌, ℕ, ◌*◌, ◌<◌, false, length};
 ghost use Rattle.crumbmap.specs.Layouts.{layout1, tags};
 ghost use Rattle.minifilter.specs.Steps.Slots.{tag_at, crumb_at};
+ghost use Rattle.minifilter.specs.Steps.Marks.{marks_of, Tells};
 
 use crumbmap::layout::{BACK_SLOTS, KEYS, TAGS};
 
@@ -32,4 +33,20 @@ pub fn crumb_of(b: &[u8], slot: usize) -> u32
 {
     let shift = slot % 2 * 4;
     (b[CRUMBS_AT + slot / 2] as u32 >> shift) % 16
+}
+
+// A mark for each of the first slots of which `marked` says so, 2 for the lowest. No slot ends the loop, and the marks are from 2 on and alike, so that
+// many slots are compared at once.
+pub fn marks<F: Fn(usize) -> bool>(slots: usize, marked: F) -> u32
+    requires room { slots < 32 }
+    requires each { (slot : ℕ) → slot < slots → F.pre marked slot }
+    ensures { (f : ℕ → ℕ) (t : ℕ) → Tells (F.post marked) f t slots → result ≡ 2 * marks_of f t 0 slots }
+{
+    let mut marks: u32 = 0;
+    for slot in 0..slots {
+        if marked(slot) {
+            marks |= 2 << (slot as u32);
+        }
+    }
+    marks
 }

@@ -6,38 +6,30 @@ ghost use Rattle.answers.specs.Answers.{Starts, Attaches};
 ghost use Rattle.image.specs.Steps.ImageReads.{Whole};
 ghost use Rattle.moving.specs.Steps.Moves.{attach_at};
 
-use crate::Shared;
 use crate::share::shared_size;
-use answers::Outcome;
+use answers::Refusal;
 use image::copy::copy_bytes;
 use image::place::size_of;
 use tails::open::form_size;
 use tails::tail::start_tail;
-use validation::Checked;
 use validation::check::check_sized;
 
 // An image of document 01's form into a target of the form with a tail.
-pub fn attach(old: &[u8], target: &mut [u8]) -> Outcome
+pub fn attach(old: &[u8], target: &mut [u8]) -> Result<(), Refusal>
     ensures { Attaches old.now target.old result target.new }
 {
-    match shared_size(size_of(old.len()), form_size(target.len())) {
-        Shared::Refused(why) => Outcome::Refused(why),
-        Shared::Buckets(size) => attach_sized(old, size, target),
-    }
+    let size = shared_size(size_of(old.len()), form_size(target.len()))?;
+    attach_sized(old, size, target)
 }
 
 // Both of one size: 3, then 8.
-fn attach_sized(old: &[u8], size: usize, target: &mut [u8]) -> Outcome
+fn attach_sized(old: &[u8], size: usize, target: &mut [u8]) -> Result<(), Refusal>
     requires { Whole size old.now × Whole size (body target.old) }
     ensures { Starts (attach_at size old.now) target.old result target.new }
 {
-    match check_sized(old, size) {
-        Checked::Refused(why) => Outcome::Refused(why),
-        Checked::Members(members) => {
-            write_form(old, members as u64, target);
-            Outcome::Accepted
-        }
-    }
+    let members = check_sized(old, size)?;
+    write_form(old, members as u64, target);
+    Ok(())
 }
 
 // A body, and a tail that begins anew behind it.

@@ -5,12 +5,3 @@
 pub mod attach;
 pub mod detach;
 pub mod share;
-
-use answers::Refusal;
-
-// The size that a source and a target share, or why there is none.
-#[derive(Clone, Copy)]
-pub enum Shared {
-    Buckets(usize),
-    Refused(Refusal),
-}

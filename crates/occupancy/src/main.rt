@@ -2,8 +2,8 @@
 
 #![tactic(auto)]
 
-use answers::pairs::refused;
-use answers::{Outcome, Refusal};
+use answers::Refusal;
+use answers::pairs::Said;
 use breadcrumb::occupancy;
 use printing::PAGE_BYTES;
 use reading::fill;
@@ -21,25 +21,21 @@ fn main(rt: HostRuntime) -> io::Result<()> {
 
 // Page after page, until one is refused. An image with B = 112 has 38 of them.
 fn print_pages(mut output: Stdout, image: &[u8], out: &mut [u8]) -> io::Result<()> {
-    let mut page = 0;
-    while page < 38 {
-        match occupancy(image, page, out) {
-            Outcome::Accepted => {
-                output.write_all(out)?;
-                page += 1;
-            }
-            Outcome::Refused(why) => return tell(output, why),
+    for page in 0..38 {
+        if let Err(why) = occupancy(image, page, out) {
+            return tell(output, why);
         }
+        output.write_all(out)?;
     }
     Ok(())
 }
 
 // Past the last page there is nothing to tell. Else a line with the number, and for an unsound bucket its table number.
 fn tell(output: Stdout, why: Refusal) -> io::Result<()> {
-    let said = refused(why);
-    match said.number {
-        6 => Ok(()),
-        3 => println!(output; "3 {}", said.value),
-        number => println!(output; "{number}"),
+    let number = Said::from(why).number;
+    match why {
+        Refusal::PastEnd => Ok(()),
+        Refusal::Unsound(table) => println!(output; "{number} {table}"),
+        _ => println!(output; "{number}"),
     }
 }

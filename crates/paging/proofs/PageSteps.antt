@@ -19,14 +19,12 @@ use Rattle.machine.specs.Machine.{members_at}
 use Rattle.machine.specs.Pages.{Run, stopped, prepended, run_from, page_from}
 use Rattle.answers.specs.Answers.{Writes}
 use Rattle.answers.specs.declared.Refusal.TheVariants.{Unsound, NoRoom}
-use Rattle.answers.specs.declared.PageResult.TheVariants as P
+use Rattle.std.specs.Prelude as S
 use Rattle.image.specs.Steps.ImageReads.{Whole}
 use Rattle.image.specs.Steps.Listed.{Listed}
 use Rattle.image.proofs.ListedLaws.{listed_same, listed-joined}
 use Rattle.listing.specs.Steps.Listings.{members_in, MembersRead}
-use Rattle.paging.specs.Steps.PageRuns.{entries_in, Ran, EndSays}
-use Rattle.paging.specs.declared.RunEnd.{RunEnd}
-use Rattle.paging.specs.declared.RunEnd.TheVariants as E
+use Rattle.paging.specs.Steps.PageRuns.{entries_in, Ran}
 use Rattle.listing.proofs.ListingLaws.{members-at}
 
 -- ---- entries
@@ -104,9 +102,12 @@ module _ {L : Layout} {B s end room : ℕ} {img : List ℕ} {f left : ℕ} (m : 
     runs = m.rest ∙ rw (e, append-nil);
   }
 
-  pub measured-end : Whole B img → end ≤ f → Ran L B s end room img f
+  pub measured-end : Whole B img → end ≤ f → Ran L B s end room img end
   unfolding run_from
-  measured-end i h = let e : end - f ≡ 0 = omega arith in stops i (rw e)
+  measured-end i h =
+      let k : end - f ≡ 0 = omega arith in
+      let e : f ≡ end = omega (arith, m.upto) in
+      rw e at (stops i (rw k))
 
   module _ (h : f < end) where
     more : end - f ≡ suc (end - suc f)
@@ -115,8 +116,8 @@ module _ {L : Layout} {B s end room : ℕ} {img : List ℕ} {f left : ℕ} (m : 
     pub measured-stop : Whole B img → MembersRead L B f img → left < length (members_in L B f img) → Ran L B s end room img f
     measured-stop i r l = stops i (rw more (run-stop L B img (end - suc f) f left r l))
 
-    pub measured-unsound : (i : ℕ) → members_at L B f img ≡ refused 3 i → run_from L B (end - s) s room img ≡ refused 3 i
-    measured-unsound i e = m.rest ∙ rw (more, run-unsound L B img (end - suc f) f left i e)
+    pub measured-unsound : {i : ℕ} → members_at L B f img ≡ refused 3 i → run_from L B (end - s) s room img ≡ refused 3 i
+    measured-unsound {i} e = m.rest ∙ rw (more, run-unsound L B img (end - suc f) f left i e)
 
     pub measured-on : MembersRead L B f img → length (members_in L B f img) ≤ left
         → Measured L B s end room img (f + 1) (left - length (members_in L B f img))
@@ -138,14 +139,6 @@ module _ {L : Layout} {B s end room : ℕ} {img : List ℕ} {f left : ℕ} (m : 
         go : (g : ℕ) → s ≤ g → g < f + 1 → (b : Bool) → ltb g f ≡ b → MembersRead L B g img
         go g a u true e = m.sound g a (ltb-true g f e)
         go g a u false e = let k : g ≡ f = omega (arith, ltb-false g f e) in rw k r
-
--- what measuring said
-module _ (L : Layout) (B s end room : ℕ) (img : List ℕ) {r : RunEnd} (said : EndSays L B s end room img r) where
-  pub end-next : {next : ℕ} → r ≡ E.Next next → Ran L B s end room img next
-  end-next e = rw e at said
-
-  pub end-unsound : {i : ℕ} → r ≡ E.Unsound i → run_from L B (end - s) s room img ≡ refused 3 i
-  end-unsound e = rw e at said
 
 -- ---- a measured run that is written
 
@@ -213,18 +206,18 @@ moves next s F h = go (eqb next s) (ltb s F) refl refl
 -- a page from bucket s, by what measuring said: an unsound bucket, no room for s, or a run that was written
 module _ (L : Layout) (B s : ℕ) (img old : List ℕ) (inside : s ≤ fronts B) where
   pub page-unsound : {i : ℕ} → run_from L B (fronts B - s) s (length old) img ≡ refused 3 i
-      → Writes (page_from L B s (length old) img) old (P.Refused (Unsound i)) old
+      → Writes (page_from L B s (length old) img) old (S.Err (Unsound i)) old
   unfolding page_from
   page-unsound e = rw (le-ltb (fronts B) s inside, e) (record { answer = refl; bytes = refl })
 
   pub page-no-room : {next : ℕ} → Ran L B s (fronts B) (length old) img next → next ≡ s → s < fronts B
-      → Writes (page_from L B s (length old) img) old (P.Refused NoRoom) old
+      → Writes (page_from L B s (length old) img) old (S.Err NoRoom) old
   unfolding page_from
   page-no-room {next} r e h =
       rw (le-ltb (fronts B) s inside, r.runs, eq-eqb next s e, lt-ltb s (fronts B) h) (record { answer = refl; bytes = refl })
 
   pub page-written : {next n : ℕ} {new : List ℕ} → Ran L B s (fronts B) (length old) img next → eqb next s && ltb s (fronts B) ≡ false
-      → Listed (entries_in L B (next - s) s img) old n new → Writes (page_from L B s (length old) img) old (P.Accepted n next) new
+      → Listed (entries_in L B (next - s) s img) old n new → Writes (page_from L B s (length old) img) old (S.Ok (record { entries = n; next = next })) new
   unfolding page_from
   page-written {next} r h l =
       rw (le-ltb (fronts B) s inside, r.runs, h)

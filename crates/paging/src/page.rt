@@ -14,27 +14,20 @@ ghost use Rattle.image.specs.Steps.Listed.{Listed};
 ghost use Rattle.listing.specs.Steps.Listings.{members_in, MembersRead};
 ghost use Rattle.paging.specs.Steps.PageRuns.{entries_in, Ran, EndSays};
 
-use crate::RunEnd;
-use answers::{PageResult, Refusal};
+use answers::{Paged, Refusal, UnsoundBucket};
 use crumbmap::Front;
 use crumbmap::fingerprint::number_of;
 use crumbmap::layout::MOST_MEMBERS;
-use listing::MemberCount;
 use listing::members::{count_members, list_members};
+use tails::Opened;
 use tails::open::open_image;
-use tails::{Opened, Opening};
 
 // The members from front bucket `start` on into `out`: how many, and the next bucket. `changes` is "the change count that the walk began with".
-pub fn page(image: &[u8], start: usize, changes: u64, out: &mut [u64]) -> PageResult
+pub fn page(image: &[u8], start: usize, changes: u64, out: &mut [u64]) -> Result<Paged, Refusal>
     ensures { Pages image.now start changes out.old result out.new }
 {
-    match open_image(image) {
-        Opening::Refused(why) => PageResult::Refused(why),
-        Opening::At(opened) => {
-            let end = opened.end;
-            page_opened(&image[..end], opened, start, changes, out)
-        }
-    }
+    let opened = open_image(image)?;
+    page_opened(&image[..opened.end], opened, start, changes, out)
 }
 
 // The same on the body of an opened image: 14, then 6.
@@ -44,7 +37,7 @@ fn page_opened(
     start: usize,
     changes: u64,
     out: &mut [u64],
-) -> PageResult
+) -> Result<Paged, Refusal>
     requires { Whole opened.size image.now }
     ensures { Writes (unchanged opened.changes changes (page_of layout1 image.now start (length out.old)))
         out.old result out.new }
@@ -52,53 +45,48 @@ fn page_opened(
     let end = 8 * opened.size;
     let current = opened.changes;
     if current != changes {
-        return PageResult::Refused(Refusal::Changed);
+        return Err(Refusal::Changed);
     }
     if end < start {
-        return PageResult::Refused(Refusal::PastEnd);
+        return Err(Refusal::PastEnd);
     }
     page_from(image, opened.size, start, out)
 }
 
 // From a front bucket of the image, or from its end.
-fn page_from(image: &[u8], size: usize, start: usize, out: &mut [u64]) -> PageResult
+fn page_from(image: &[u8], size: usize, start: usize, out: &mut [u64]) -> Result<Paged, Refusal>
     requires { Whole size image.now × (start ≤ fronts size) }
     ensures { Writes (page_from layout1 size start (length out.old) image.now) out.old result out.new }
 {
     let end = 8 * size;
-    match measure(image, size, start, end, out.len()) {
-        RunEnd::Unsound(table) => PageResult::Refused(Refusal::Unsound(table)),
-        RunEnd::Next(next) => {
-            if next == start {
-                if start < end {
-                    return PageResult::Refused(Refusal::NoRoom);
-                }
-            }
-            PageResult::Accepted(write_run(image, size, start, next, out), next)
-        }
+    let next = measure(image, size, start, end, out.len())?;
+    if next == start && start < end {
+        return Err(Refusal::NoRoom);
     }
+    let entries = write_run(image, size, start, next, out);
+    Ok(Paged { entries, next })
 }
 
-// How far the run goes, up to front bucket `end`: buckets are read and counted "until one does not fit".
-pub fn measure(image: &[u8], size: usize, start: usize, end: usize, room: usize) -> RunEnd
+// The bucket behind the run, which goes up to front bucket `end`: buckets are read and counted "until one does not fit".
+pub fn measure(
+    image: &[u8],
+    size: usize,
+    start: usize,
+    end: usize,
+    room: usize,
+) -> Result<usize, UnsoundBucket>
     requires { Whole size image.now × (start ≤ end) × (end ≤ fronts size) }
     ensures { EndSays layout1 size start end room image.now result }
 {
-    let mut f = start;
     let mut left = room;
-    while f < end {
-        match count_members(image, size, Front(f)) {
-            MemberCount::Unsound(table) => return RunEnd::Unsound(table),
-            MemberCount::Members(n) => {
-                if left < n {
-                    return RunEnd::Next(f);
-                }
-                left -= n;
-                f += 1;
-            }
+    for f in start..end {
+        let n = count_members(image, size, Front(f))?;
+        if left < n {
+            return Ok(f);
         }
+        left -= n;
     }
-    RunEnd::Next(f)
+    Ok(end)
 }
 
 // The buckets of a measured run, one after the other, into the start of `out`; how many members.
@@ -106,11 +94,9 @@ fn write_run(image: &[u8], size: usize, start: usize, next: usize, out: &mut [u6
     requires { Ran layout1 size start (fronts size) (length out.old) image.now next }
     ensures { Listed (entries_in layout1 size (next - start) start image.now) out.old result out.new }
 {
-    let mut f = start;
     let mut n = 0;
-    while f < next {
+    for f in start..next {
         n += write_bucket(image, size, Front(f), &mut out[n..]);
-        f += 1;
     }
     n
 }
@@ -133,9 +119,7 @@ fn number_all(front: Front, keys: &[u32], out: &mut [u64])
     ensures { out.new ≡
         map (fingerprint layout1 front.0) keys.now ++ drop (length keys.now) out.old }
 {
-    let mut i = 0;
-    while i < keys.len() {
-        out[i] = number_of(front, keys[i]);
-        i += 1;
+    for (i, key) in keys.iter().enumerate() {
+        out[i] = number_of(front, *key);
     }
 }

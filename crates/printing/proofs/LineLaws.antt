@@ -6,6 +6,7 @@ use Prim.Native.Nat.{ℕ, zero, suc, ◌+◌, ◌/◌, ◌%◌, ◌-◌, ◌≤�
 use mathlib.Core.List.{List, [], ◌∷◌, ◌++◌, append_assoc}
 use native.Mathlib.Omega.{arith}
 use lib.ListN.{length, take, drop, set, replicate, length-append, length-replicate}
+use lib.Seq.{length-take-le}
 use borrow.Author.Tests.{lt-ltb, le-ltb}
 use borrow.Rule.Slice.PartMut.{put_mid}
 use Rattle.crumbmap.specs.Layouts.{Layout}
@@ -35,14 +36,9 @@ aligned-last n number (suc i) v out p h l q =
     (rw (lt-ltb v 10 l) at q) ∙ rw j (stands-before (replicate {A = ℕ} i 32) out i (48 + v % 10) (omega arith))
 
 -- blanks in front of what stands
-pub blanks-before : (j : ℕ) (xs ys : List ℕ) → j ≤ length xs → ys ≡ replicate {A = ℕ} (length (take (j - 0) (drop 0 xs))) 32
-    → put_mid 0 (j - 0) xs ys ≡ replicate {A = ℕ} j 32 ++ drop j xs
-unfolding over
-blanks-before j xs ys h e =
-    let k : j - 0 ≡ j = omega arith in
-    rw k
-    (over-written (λ (n : ℕ). replicate {A = ℕ} n 32) (λ n. length-replicate {A = ℕ} n 32) 0 j xs ys (omega arith) (rw k at e)
-    ∙ rw (length-replicate {A = ℕ} j 32))
+pub blanks-before : (j : ℕ) (xs ys : List ℕ) → j ≤ length xs → ys ≡ replicate {A = ℕ} (length (take j xs)) 32
+    → ys ++ drop j xs ≡ replicate {A = ℕ} j 32 ++ drop j xs
+blanks-before j xs ys h e = rw (e, length-take-le j xs h)
 
 -- ---- pieces
 
@@ -103,14 +99,13 @@ module _ (L : Layout) (n : ℕ) (xs : List ℕ) (l : length xs ≡ L.front_slots
       (stands-part s (λ (m : ℕ). replicate {A = ℕ} m 46) (λ m. length-replicate {A = ℕ} m 46) (L.front_slots - n) b (omega arith) (rw d at e))
       (omega arith))
 
-  pub bar-filled : (a b : List ℕ) → a ≡ replicate {A = ℕ} (length (take (n - 0) (drop 0 xs))) 35
-      → let ys = put_mid 0 (n - 0) xs a in b ≡ replicate {A = ℕ} (length (take (length ys - n) (drop n ys))) 46
+  pub bar-filled : (a b : List ℕ) → a ≡ replicate {A = ℕ} (length (take n xs)) 35
+      → let ys = a ++ drop n xs in b ≡ replicate {A = ℕ} (length (take (length ys - n) (drop n ys))) 46
       → put_mid n (length ys - n) ys b ≡ bar L n
   bar-filled a b e f =
-      let k : n - 0 ≡ n = omega arith in
       let z : 0 + n ≡ n = omega arith in
-      let s = stands-part (stands-none xs) (λ (m : ℕ). replicate {A = ℕ} m 35) (λ m. length-replicate {A = ℕ} m 35) n a (omega arith) (rw k at e) in
-      dots (put_mid 0 (n - 0) xs a) b (rw k (rw z at s)) f
+      let s = stands-part (stands-none xs) (λ (m : ℕ). replicate {A = ℕ} m 35) (λ m. length-replicate {A = ℕ} m 35) n a (omega arith) e in
+      dots (a ++ drop n xs) b (rw z at s) f
 
 -- the pieces of a line
 pub line-written : (L : Layout) (f n far : ℕ) (xs ys zs ws r : List ℕ) → length xs ≡ line_bytes L → n ≤ L.front_slots → ys ≡ over 0 (column 6 f) xs

@@ -2,6 +2,7 @@
 -- Main results: `run-refused` and `ran-lines`, what reading them says of the page; `bucket-few`, `bucket-full`, `line-here`, `line-past`, the line of a
 -- bucket that was read; `lines_more`, one line more; `page-refused`, `page-short`, `page-printed`, the endings of a page.
 use mathlib.Core.Path.{◌≡◌, refl, ap}
+use Rattle.std.specs.Prelude as S
 use Prim.Native.Nat.{ℕ, zero, suc, ◌+◌, ◌*◌, ◌-◌, ◌≤◌, ◌<◌, min}
 use mathlib.Core.Bool.{Bool, true, false}
 use mathlib.Core.List.{List, map}
@@ -25,7 +26,6 @@ use Rattle.machine.proofs.RoomLaws.{members-room}
 use Rattle.machine.proofs.OccupancyLaws.{length-line_of, lines_next, with-few, with-many, line-members, lines-counted}
 use Rattle.answers.specs.Answers.{Prints}
 use Rattle.answers.specs.declared.Refusal.TheVariants.{Unsound, NoRoom}
-use Rattle.answers.specs.declared.Outcome.TheVariants as D
 use Rattle.text.specs.Texts.{over}
 use Rattle.listing.specs.Steps.Listings.{members_in, MembersRead}
 use Rattle.listing.proofs.ListingLaws.{members-at, members-few, members-full}
@@ -132,15 +132,15 @@ lines_more L count F s i xs ys r t e =
 
 module _ (L : Layout) (B s : ℕ) (img old : List ℕ) where
   pub page-refused : {i : ℕ} → lines_from L B page_lines s img ≡ refused 3 i
-      → Prints (print_from L B s (length old) img) old (D.Refused (Unsound i)) old
+      → Prints (print_from L B s (length old) img) old (S.Err (Unsound i)) old
   unfolding print_from
   page-refused e = rw e (record { answer = refl; bytes = refl })
 
   module _ {text : List ℕ} (e : lines_from L B page_lines s img ≡ accepted text) where
-    pub page-short : length old < page_bytes L → Prints (print_from L B s (length old) img) old (D.Refused NoRoom) old
+    pub page-short : length old < page_bytes L → Prints (print_from L B s (length old) img) old (S.Err NoRoom) old
     unfolding print_from
     page-short h = rw (e, lt-ltb (length old) (page_bytes L) h) (record { answer = refl; bytes = refl })
 
-    pub page-printed : {new : List ℕ} → page_bytes L ≤ length old → new ≡ over 0 text old → Prints (print_from L B s (length old) img) old D.Accepted new
+    pub page-printed : {new : List ℕ} → page_bytes L ≤ length old → new ≡ over 0 text old → Prints (print_from L B s (length old) img) old (S.Ok tt) new
     unfolding print_from over
     page-printed h f = rw (e, le-ltb (length old) (page_bytes L) h) (record { answer = refl; bytes = f })

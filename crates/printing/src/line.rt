@@ -7,7 +7,6 @@ ghost use Rattle.text.specs.Texts.{over};
 
 use crate::LINE_BYTES;
 use crate::decimal::put_aligned;
-use edits::edit::fill;
 
 // A front bucket's number, its front members, its overflow, and its bar.
 pub(crate) fn put_line(out: &mut [u8], front: usize, near: usize, far: usize)
@@ -37,8 +36,8 @@ fn put_bar(out: &mut [u8], members: usize)
     requires { (length out.old ≡ layout1.front_slots) × (members ≤ layout1.front_slots) }
     ensures { out.new ≡ bar layout1 members }
 {
-    fill(&mut out[0..members], b'#');
-    fill(&mut out[members..], b'.');
+    out[..members].fill(b'#');
+    out[members..].fill(b'.');
 }
 
 // "Lines past the last bucket are 41 blanks."
@@ -47,6 +46,6 @@ pub(crate) fn put_blank(out: &mut [u8])
     ensures { out.new ≡ blank_line layout1 }
 {
     let end = LINE_BYTES - 1;
-    fill(&mut out[0..end], b' ');
+    out[..end].fill(b' ');
     out[end] = b'\n';
 }

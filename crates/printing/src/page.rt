@@ -11,62 +11,52 @@ ghost use Rattle.printing.specs.Steps.Counts.{many_in, LinesRead};
 
 use crate::line::{put_blank, put_line};
 use crate::{LINE_BYTES, LINES, PAGE_BYTES};
-use answers::{Outcome, Refusal};
+use answers::Refusal;
 use crumbmap::Front;
 use crumbmap::layout::{FRONT_SLOTS, MOST_MEMBERS};
 use image::place::bucket;
 use listing::members::count_overflow;
-use paging::RunEnd;
 use paging::page::measure;
 use search::find::count_front;
-use tails::Opening;
 use tails::open::open_image;
 
 // Page `page` of an image, from front bucket 24 × page on, into the start of `out`.
-pub fn occupancy(image: &[u8], page: u64, out: &mut [u8]) -> Outcome
+pub fn occupancy(image: &[u8], page: u64, out: &mut [u8]) -> Result<(), Refusal>
     ensures { Occupancies image.now page out.old result out.new }
 {
-    match open_image(image) {
-        Opening::Refused(why) => Outcome::Refused(why),
-        Opening::At(opened) => {
-            let end = opened.end;
-            print_sized(&image[..end], opened.size, page, out)
-        }
-    }
+    let opened = open_image(image)?;
+    print_sized(&image[..opened.end], opened.size, page, out)
 }
 
 // The same on a body of a size.
-fn print_sized(image: &[u8], size: usize, page: u64, out: &mut [u8]) -> Outcome
+fn print_sized(image: &[u8], size: usize, page: u64, out: &mut [u8]) -> Result<(), Refusal>
     requires { Whole size image.now }
     ensures { Prints (occupancy_of layout1 image.now page (length out.old)) out.old result out.new }
 {
     // The last page by a division: 24 × page may exceed 64 bits.
     let last = (8 * size - 1) / LINES;
     if (last as u64) < page {
-        return Outcome::Refused(Refusal::PastEnd);
+        return Err(Refusal::PastEnd);
     }
     print_from(image, size, LINES * (page as usize), out)
 }
 
 // A page from a front bucket of the image. Its buckets are read before the output's length is judged; any members fit the room they are given.
-fn print_from(image: &[u8], size: usize, start: usize, out: &mut [u8]) -> Outcome
+fn print_from(image: &[u8], size: usize, start: usize, out: &mut [u8]) -> Result<(), Refusal>
     requires { Whole size image.now × (start < fronts size) }
     ensures { Prints (print_from layout1 size start (length out.old) image.now) out.old result out.new }
 {
     let end = end_of(size, start);
-    match measure(image, size, start, end, LINES * MOST_MEMBERS) {
-        RunEnd::Unsound(table) => Outcome::Refused(Refusal::Unsound(table)),
-        RunEnd::Next(_) => {
-            if out.len() < PAGE_BYTES {
-                return Outcome::Refused(Refusal::NoRoom);
-            }
-            print_all(image, size, start, out);
-            Outcome::Accepted
-        }
+    measure(image, size, start, end, LINES * MOST_MEMBERS)?;
+    if out.len() < PAGE_BYTES {
+        return Err(Refusal::NoRoom);
     }
+    print_all(image, size, start, out);
+    Ok(())
 }
 
 // The front bucket behind the last of a page.
+#[tactic(auto, unfolding(crumbmap::specs::Layouts::fronts))]
 fn end_of(size: usize, start: usize) -> usize
     requires { (size ≤ 65536) × (start < fronts size) }
     ensures { result ≡ min (start + page_lines) (fronts size) }
@@ -85,12 +75,9 @@ fn print_all(image: &[u8], size: usize, start: usize, out: &mut [u8])
     ensures { out.new
         ≡ over 0 (lines_of layout1 (many_in layout1 size image.now) (fronts size) page_lines start) out.old }
 {
-    let mut i = 0;
-    while i < LINES {
+    for i in 0..LINES {
         let at = LINE_BYTES * i;
-        let end = at + LINE_BYTES;
-        print_at(image, size, start + i, &mut out[at..end]);
-        i += 1;
+        print_at(image, size, start + i, &mut out[at..at + LINE_BYTES]);
     }
 }
 

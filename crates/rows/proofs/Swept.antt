@@ -9,6 +9,7 @@ use mathlib.Core.List.{List, ◌∷◌, ◌++◌, append_assoc, append-nil}
 use lib.ListN.{length, take, drop, get_or, set, length-set}
 use lib.Dec.{eqb}
 use lib.Seq.{drop-cons, drop-set-lt, take-suc-set, drop-length, take-length}
+use Rattle.std.specs.Prelude as S
 use Rattle.multiset.specs.Multisets.{Below}
 use Rattle.crumbmap.specs.Layouts.{Layout, known}
 use Rattle.buckets.specs.Buckets.{Fits64}
@@ -18,7 +19,7 @@ use Rattle.machine.specs.Calls.{ask_of}
 use Rattle.form.specs.Tails.{body}
 use Rattle.answers.specs.Rows.{hashes, rowed_of, Rows}
 use Rattle.answers.specs.declared.Entry.{Entry}
-use Rattle.answers.specs.declared.RowResult.{RowResult}
+use Rattle.answers.specs.declared.Refusal.{Refusal}
 use Rattle.grouping.specs.Steps.Grouping.{fetched, tested, told_by, turned, Ready, begun, resumed, result_of}
 use Rattle.grouping.specs.declared.State.{State}
 use Rattle.grouping.specs.declared.Turned.{Turned}
@@ -116,7 +117,7 @@ module _ (L : Layout) (img : List ℕ) (ys : List Entry) (s₀ : State) (e₀ : 
       ready-third only = rw (e₂, l₂.0, l₂.1, e₁, l₁.0, l₁.1, e₀) (third-ready L known img only ys)
 
       -- what the three leave is the row of the image with its tail
-      pub rowed : Only L known img → (r₃ : State) (zs₃ : List Entry) (a : RowResult) → Leaves L (body img) s₂ zs₂ r₃ zs₃ → rowed_of a ≡ result_of r₃
+      pub rowed : Only L known img → (r₃ : State) (zs₃ : List Entry) (a : S.Result ℕ Refusal) → Leaves L (body img) s₂ zs₂ r₃ zs₃ → rowed_of a ≡ result_of r₃
           → Rows img ys a zs₃
       rowed only r₃ zs₃ a l₃ e₃ =
           let t = all-swept L known img only ys in

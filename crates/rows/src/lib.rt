@@ -23,12 +23,10 @@ pub fn sweep(image: &[u8], row: &mut [Entry], start: State) -> State
 {
     let phase = start.phase;
     let mut s = start;
-    let mut i: usize = 0;
-    while i < row.len() {
-        let t = turn(image, phase, s, row[i]);
-        row[i] = t.entry;
+    for entry in row.iter_mut() {
+        let t = turn(image, phase, s, *entry);
+        *entry = t.entry;
         s = t.state;
-        i += 1;
     }
     s
 }

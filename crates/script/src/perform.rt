@@ -2,8 +2,8 @@
 
 use replay::call::{attach, detach, merge, within};
 use stored::Outcome;
-use stored::images::{State, copied, length_of, picked, with_changes, with_length, zeroed};
-use stored::line::{Line, Parsed, parse};
+use stored::images::{Image, State, copied, picked, zeroed};
+use stored::line::{Line, Operation, parse};
 
 // One line: the change count of the pages that follow, or what is done on the three images. Any other text does nothing.
 pub fn step(
@@ -14,17 +14,16 @@ pub fn step(
     c: &mut [u8],
     out: &mut [u64],
 ) -> Outcome {
-    let Parsed::Line(line) = parse(text) else {
+    let Some(line) = parse(text) else {
         return Outcome::Nothing;
     };
-    if line.operation == 16 {
-        return Outcome::State(with_changes(state, line.p));
+    if let Operation::Changes(changes) = line.operation {
+        return Outcome::State(State { changes, ..state });
     }
-    let target = line.target;
-    match target {
-        0 => perform(line, state, b, c, a, out),
-        1 => perform(line, state, a, c, b, out),
-        _ => perform(line, state, a, b, c, out),
+    match line.target {
+        Image::A => perform(line, state, b, c, a, out),
+        Image::B => perform(line, state, a, c, b, out),
+        Image::C => perform(line, state, a, b, c, out),
     }
 }
 
@@ -37,32 +36,45 @@ fn perform<'a>(
     buffer: &mut [u8],
     out: &mut [u64],
 ) -> Outcome {
+    let target = line.target;
+    let n = state.length_of(target);
+    match line.operation {
+        Operation::Length(q) => { Outcome::State(state.with_length(target, zeroed(buffer, n, q))) }
+        Operation::Copy(from) => {
+            let from = picked(lower, upper, state, from, target);
+            Outcome::State(state.with_length(target, copied(from, buffer, n)))
+        }
+        _ => called(line, state, lower, upper, buffer, out),
+    }
+}
+
+// A line that keeps the length of its image.
+fn called<'a>(
+    line: Line,
+    state: State,
+    lower: &'a [u8],
+    upper: &'a [u8],
+    buffer: &mut [u8],
+    out: &mut [u64],
+) -> Outcome {
     let operation = line.operation;
     let target = line.target;
-    let n = length_of(state, target);
-    if operation == 0 {
-        return Outcome::State(with_length(state, target, zeroed(buffer, n, line.q)));
-    }
-    let first = picked(lower, upper, state, line.first, target);
-    if operation == 10 {
-        return Outcome::State(with_length(state, target, copied(first, buffer, n)));
-    }
+    let n = state.length_of(target);
     if buffer.len() < n {
         return Outcome::Nothing;
     }
-    let image = &mut buffer[0..n];
-    if operation == 8 {
-        return merge(
-            first,
-            picked(lower, upper, state, line.second, target),
-            image,
-        );
+    let image = &mut buffer[..n];
+    let given = match operation {
+        Operation::Merge { first, second } => {
+            let first = picked(lower, upper, state, first, target);
+            Some(merge(first, picked(lower, upper, state, second, target), image))
+        }
+        Operation::Attach(from) => Some(attach(picked(lower, upper, state, from, target), image)),
+        Operation::Detach(from) => Some(detach(picked(lower, upper, state, from, target), image)),
+        _ => within(operation, image, state.changes, out),
+    };
+    match given {
+        Some(given) => Outcome::Said(operation, given),
+        None => Outcome::Nothing,
     }
-    if operation == 13 {
-        return attach(first, image);
-    }
-    if operation == 14 {
-        return detach(first, image);
-    }
-    within(operation, image, line.p, line.q, state.changes, out)
 }

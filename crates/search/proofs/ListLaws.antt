@@ -14,6 +14,7 @@ use lib.Count.{count_trailing_zeros, ones}
 use lib.Bits.{bit_and}
 use lib.Dec.{T}
 use borrow.Author.Tests.{eq-eqb, ne_eqb, eqb-true, eqb-false}
+use Rattle.std.specs.Prelude as S
 use Rattle.multiset.specs.Multisets.{ascending, below}
 use Rattle.multiset.specs.Digits.{value, highs}
 use Rattle.crumbmap.specs.Layouts.{Layout, layout1, tags}
@@ -22,7 +23,6 @@ use Rattle.buckets.specs.Words.{minis_in}
 use Rattle.words.specs.Steps.Wide.{word_bytes1}
 use Rattle.search.specs.Steps.Searches.{first_of, wanted_at, chosen, without}
 use Rattle.minifilter.specs.Steps.Slots.{bits_of, minis_of, slot_minis, crumb_at, tag_at, span_of}
-use Rattle.search.specs.declared.Carried.TheVariants.{Key}
 use Rattle.multiset.proofs.SlotLaws.{slot-holds, holds-from, holds-copy}
 use Rattle.buckets.proofs.WordLaws.{coded-minis_in}
 use Rattle.buckets.proofs.GapLaws.{gaps}
@@ -76,7 +76,7 @@ carrying-none c (y ∷ ys) h = rw (ne_eqb (y % 16) c (h 0 (omega arith))) (carry
 
 -- the first that does leads them
 carrying-head : (c r : ℕ) (all ys : List ℕ) → r < length ys → ((i : ℕ) → i < r → get_or ys i 0 % 16 ≡ c → ⊥) → get_or ys r 0 % 16 ≡ c
-    → first_of c all (carrying c ys) ≡ Key (get_or ys r 0 / 16) (below (get_or ys r 0 / 16 * 16 + c) all)
+    → first_of c all (carrying c ys) ≡ S.Some (record { key = get_or ys r 0 / 16; slot = below (get_or ys r 0 / 16 * 16 + c) all })
 unfolding carrying
 carrying-head c r all [] l h e = absurd (omega arith)
 carrying-head c zero all (y ∷ ys) l h e = rw (eq-eqb (y % 16) c e)
@@ -94,11 +94,11 @@ module _ (c r : ℕ) (ys : List ℕ) (a : T (ascending ys)) (l : r < length ys) 
         | no n ↦ absurd (h (below y ys) (omega arith) (ap (λ (x : ℕ). x % 16) (slot-holds y ys a (holds-copy y r ys a l refl)) ∙ e))
       ]
 
-  pub carrying-first : first_of c ys (carrying c ys) ≡ Key (get_or ys r 0 / 16) r
+  pub carrying-first : first_of c ys (carrying c ys) ≡ S.Some (record { key = get_or ys r 0 / 16; slot = r })
   carrying-first =
       let y : ℕ = get_or ys r 0 in
       let same : y / 16 * 16 + c ≡ y = omega arith in
-      carrying-head c r ys ys l h e ∙ ap (λ (x : ℕ). Key (y / 16) (below x ys)) same ∙ ap (Key (y / 16)) first_below
+      carrying-head c r ys ys l h e ∙ rw (same, first_below)
 
 -- ---- a turn of the loop over the slots in use
 

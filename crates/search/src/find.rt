@@ -1,6 +1,6 @@
 // Where a member stands in a sound bucket and how often, how many members there are, and the largest.
 
-ghost use Rattle.std.specs.Prelude.{◌≡◌, suc, ◌+◌, ◌*◌, ◌<◌, ◌≤◌, false, length};
+ghost use Rattle.std.specs.Prelude.{◌≡◌, ℕ, suc, ◌+◌, ◌*◌, ◌%◌, ◌<◌, ◌≤◌, false, length, Some};
 ghost use Rattle.multiset.specs.Multisets.{below, copies, found_in, largest};
 ghost use Rattle.multiset.specs.Digits.{highs};
 ghost use Rattle.crumbmap.specs.Layouts.{layout1, tags, keys};
@@ -9,9 +9,9 @@ ghost use Rattle.words.specs.Select.{select_table};
 ghost use Rattle.minifilter.specs.Steps.Readings.{SoundFront, SoundBack, members_of};
 ghost use Rattle.minifilter.specs.Steps.Slots.{slots_of, span_of, low_at, tag_at};
 ghost use Rattle.minifilter.specs.Steps.Marks.{marks_of};
-ghost use Rattle.search.specs.Steps.Searches.{Scanned, RankOf, Seekable, Standing, Marked, search_of, slot_else, many_in, end_of1};
+ghost use Rattle.search.specs.Steps.Searches.{Scanned, RankOf, Seekable, Standing, Lowest, Marked, search_of, slot_else, many_in, end_of1};
 
-use crate::Search;
+use crate::Found;
 use crumbmap::layout::{FRONT_SLOTS, MINIS, TAGS};
 use minifilter::slots;
 use words::{select, word};
@@ -36,15 +36,12 @@ fn scan(b: &[u8], crumbs: bool, from: usize, past: usize, low: u32) -> usize
     requires { (length b.now ≡ 64) × (from ≤ past) × (past ≤ slots_of layout1 crumbs) }
     ensures { Scanned layout1 crumbs b.now from past low result }
 {
-    let mut slot = from;
-    while slot < past {
-        let here = low_of(b, crumbs, slot);
-        if low <= here {
+    for slot in from..past {
+        if low <= low_of(b, crumbs, slot) {
             return slot;
         }
-        slot += 1;
     }
-    slot
+    past
 }
 
 // How many members are below one: those of the mini-buckets before its own, by the end of the last of these, and in its own up to the first slot
@@ -77,22 +74,23 @@ fn past_of(b: &[u8], crumbs: bool, slot: usize, mini: u32, low: u32) -> usize
 
 // Where a member stands, by how many are below it: at that slot, if it is one of the mini-bucket's and holds no more, and at those behind it up to the
 // first that holds more.
-fn find_in(b: &[u8], crumbs: bool, slot: usize, mini: u32, low: u32) -> Search
+fn find_in(b: &[u8], crumbs: bool, slot: usize, mini: u32, low: u32) -> Option<Found>
     requires { RankOf layout1 crumbs b.now slot mini low }
     ensures { result ≡ search_of (found_in (mini * span_of layout1 crumbs + low) (members_of layout1 crumbs b.now)) }
 {
     let past = past_of(b, crumbs, slot, mini, low);
     if past == slot {
-        return Search::Absent;
+        return None;
     }
     if low < low_of(b, crumbs, slot) {
-        return Search::Absent;
+        return None;
     }
-    Search::At(slot, scan(b, crumbs, slot + 1, past, low + 1) - slot)
+    let copies = scan(b, crumbs, slot + 1, past, low + 1) - slot;
+    Some(Found { slot, copies })
 }
 
 // The same for a member of a backyard bucket: the reader gave the slot.
-pub fn find_back(b: &[u8], slot: usize, member: u32) -> Search
+pub fn find_back(b: &[u8], slot: usize, member: u32) -> Option<Found>
     requires { SoundBack layout1 b.now × (member < keys layout1 * 16) × (slot ≡ below member (back_list layout1 b.now)) }
     ensures { result ≡ search_of (found_in member (back_list layout1 b.now)) }
 {
@@ -106,7 +104,7 @@ pub fn find_back(b: &[u8], slot: usize, member: u32) -> Search
 }
 
 // The same search where the reader gave no slot: select finds it, without the table.
-fn seek_in(b: &[u8], crumbs: bool, mini: u32, low: u32) -> Search
+fn seek_in(b: &[u8], crumbs: bool, mini: u32, low: u32) -> Option<Found>
     requires { Seekable layout1 crumbs b.now mini low }
     ensures { result ≡ search_of (found_in (mini * span_of layout1 crumbs + low) (members_of layout1 crumbs b.now)) }
 {
@@ -115,44 +113,43 @@ fn seek_in(b: &[u8], crumbs: bool, mini: u32, low: u32) -> Search
     find_in(b, crumbs, slot, mini, low)
 }
 
-// A mark for each of the first slots of a front bucket that holds a tag, in use or not: 2 for the lowest. No slot ends the loop, and the marks are from
-// 2 on and alike, so that many slots are compared at once.
+// A mark for each of the first slots of a front bucket that holds a tag, in use or not: 2 for the lowest.
 fn marks_of(b: &[u8], slots: usize, tag: u32) -> u32
     requires { (length b.now ≡ 64) × (slots ≤ layout1.front_slots) }
     ensures { result ≡ 2 * marks_of (tag_at layout1 false b.now) tag 0 slots }
 {
-    let mut marks: u32 = 0;
-    let mut mark: u32 = 2;
-    let mut slot: usize = 0;
-    while slot < slots {
-        if slots::tag_of(b, slot) == tag {
-            marks |= mark;
-        }
-        mark = mark * 2;
-        slot += 1;
-    }
-    marks
+    slots::marks(slots, |slot| slots::tag_of(b, slot) == tag)
 }
 
-// The lowest slot of a key in a front bucket, 28 where it is absent: the first slot with its tag, if that is one of its mini-bucket's. Tags of other mini-buckets seldom are the same; then select finds the slot. It is a number alone, which a register hands over.
+// The first slot that is marked, where it is one of the key's mini-bucket. Tags of other mini-buckets seldom are the same.
+fn first_marked(b: &[u8], key: u32, marks: u32) -> Option<usize>
+    requires { SoundFront layout1 b.now × (key < keys layout1) × (0 < marks) × (marks ≡ 2 * marks_of (tag_at layout1 false b.now) (key % tags layout1) 0 layout1.front_slots) }
+    ensures { (slot : ℕ) → result ≡ Some slot → Lowest layout1 b.now key marks slot }
+{
+    let slot = (u32::trailing_zeros(marks) - 1) as usize;
+    if word::is_slot_of(word::word_of(b), key / TAGS, slot) {
+        return Some(slot);
+    }
+    None
+}
+
+// The lowest slot of a key in a front bucket, 28 where it is absent: the first slot with its tag, if that is one of its mini-bucket's, else select finds
+// it. It is a number alone, which a register hands over.
 fn slot_front(b: &[u8], key: u32) -> usize
     requires { SoundFront layout1 b.now × (key < keys layout1) }
     ensures { result ≡ slot_else layout1.front_slots (found_in key (front_list layout1 b.now)) }
 {
-    let mini = key / TAGS;
-    let tag = key % TAGS;
-    let marks = marks_of(b, FRONT_SLOTS, tag);
+    let marks = marks_of(b, FRONT_SLOTS, key % TAGS);
     if marks == 0 {
         return FRONT_SLOTS;
     }
-    let slot = (u32::trailing_zeros(marks) - 1) as usize;
-    if word::is_slot_of(word::word_of(b), mini, slot) {
+    if let Some(slot) = first_marked(b, key, marks) {
         return slot;
     }
-    let Search::At(found, _) = seek_in(b, false, mini, tag) else {
-        return FRONT_SLOTS;
-    };
-    found
+    match seek_in(b, false, key / TAGS, key % TAGS) {
+        Some(found) => found.slot,
+        None => FRONT_SLOTS,
+    }
 }
 
 // The copies of a key from its lowest slot on: mostly one, as the next slot's tag says.
@@ -170,15 +167,18 @@ fn copies_front(b: &[u8], slot: usize, mini: u32, tag: u32) -> usize
 }
 
 // Where a key stands in a front bucket.
-pub fn find_front(b: &[u8], key: u32) -> Search
+pub fn find_front(b: &[u8], key: u32) -> Option<Found>
     requires { SoundFront layout1 b.now × (key < keys layout1) }
     ensures { result ≡ search_of (found_in key (front_list layout1 b.now)) }
 {
     let slot = slot_front(b, key);
     if slot == FRONT_SLOTS {
-        return Search::Absent;
+        return None;
     }
-    Search::At(slot, copies_front(b, slot, key / TAGS, key % TAGS))
+    Some(Found {
+        slot,
+        copies: copies_front(b, slot, key / TAGS, key % TAGS),
+    })
 }
 
 // The copies of a key, by the marks of its tag from its lowest slot on: those in a row, as far as they are its mini-bucket's. Mostly there is one.
@@ -196,7 +196,7 @@ fn copies_marked(b: &[u8], slot: usize, mini: u32, tag: u32, marks: u32) -> usiz
 
 // The same search for many keys in turn. It has one caller, and the slots are told by the bucket's length: so all of it becomes part of that caller's
 // loop, which a row feels.
-pub fn seek_front(b: &[u8], key: u32) -> Search
+pub fn seek_front(b: &[u8], key: u32) -> Option<Found>
     requires { SoundFront layout1 b.now × (key < keys layout1) }
     ensures { result ≡ search_of (found_in key (front_list layout1 b.now)) }
 {
@@ -204,18 +204,19 @@ pub fn seek_front(b: &[u8], key: u32) -> Search
     let tag = key % TAGS;
     let marks = marks_of(b, (b.len() - slots::TAGS_AT) / 2, tag);
     if marks == 0 {
-        return Search::Absent;
+        return None;
     }
-    let place = u32::trailing_zeros(marks);
-    let slot = (place - 1) as usize;
-    if word::is_slot_of(word::word_of(b), mini, slot) {
-        return Search::At(slot, copies_marked(b, slot, mini, tag, marks >> place));
+    if let Some(slot) = first_marked(b, key, marks) {
+        return Some(Found {
+            slot,
+            copies: copies_marked(b, slot, mini, tag, marks >> (slot as u32 + 1)),
+        });
     }
     seek_in(b, false, mini, tag)
 }
 
 // Where a member stands in a backyard bucket that the reader gave no slot of.
-pub fn seek_back(b: &[u8], member: u32) -> Search
+pub fn seek_back(b: &[u8], member: u32) -> Option<Found>
     requires { SoundBack layout1 b.now × (member < keys layout1 * 16) }
     ensures { result ≡ search_of (found_in member (back_list layout1 b.now)) }
 {
@@ -228,12 +229,12 @@ pub fn seek_back(b: &[u8], member: u32) -> Search
 }
 
 // The copies that a search found.
-pub fn copies_of(found: Search) -> usize
+pub fn copies_of(found: Option<Found>) -> usize
     ensures { result ≡ many_in found }
 {
     match found {
-        Search::At(_, copies) => copies,
-        Search::Absent => 0,
+        Some(found) => found.copies,
+        None => 0,
     }
 }
 

@@ -5,18 +5,18 @@
 pub mod find;
 pub mod list;
 
-// What a search for a member finds: "the lowest slot and the number of equal copies there", or none.
+// What a search for a member finds: "the lowest slot and the number of equal copies there".
 #[derive(Clone, Copy)]
-pub enum Search {
-    At(usize, usize),
-    Absent,
+pub struct Found {
+    pub slot: usize,
+    pub copies: usize,
 }
 
 // The lowest key among a backyard bucket's members that carry a crumb, and its lowest slot.
 #[derive(Clone, Copy)]
-pub enum Carried {
-    Key(u32, usize),
-    Nothing,
+pub struct Carried {
+    pub key: u32,
+    pub slot: usize,
 }
 
 // A place among the members of a backyard bucket: a slot, and the word's zeros from that slot's on.

@@ -52,16 +52,14 @@ fn list_in(b: &[u8], crumbs: bool, crumb: u32, out: &mut [u32]) -> usize
     let word = word::word_of(b);
     let members = word::occupancy(word);
     let mut zeros = !word;
-    let mut slot: usize = 0;
     let mut n: usize = 0;
-    while slot < members {
+    for slot in 0..members {
         let key = key_at(b, zeros, slot);
         if wanted(b, crumbs, slot, crumb) {
             out[n] = key;
             n += 1;
         }
         zeros = zeros & (zeros - 1);
-        slot += 1;
     }
     n
 }
@@ -111,23 +109,24 @@ pub fn next_back(b: &[u8], at: Cursor) -> Passed
 }
 
 // The lowest of the keys that carry a crumb, and its slot: the first that holds the crumb.
-pub fn first_carrying(b: &[u8], crumb: u32) -> Carried
+pub fn first_carrying(b: &[u8], crumb: u32) -> Option<Carried>
     requires { SoundBack layout1 b.now × (crumb < 16) }
     ensures { result ≡ first_of crumb (back_list layout1 b.now) (carrying crumb (back_list layout1 b.now)) }
 {
     let word = word::word_of(b);
     let members = word::occupancy(word);
     let mut zeros = !word;
-    let mut slot: usize = 0;
-    while slot < members {
+    for slot in 0..members {
         let here = slots::crumb_of(b, slot);
         if here == crumb {
-            return Carried::Key(key_at(b, zeros, slot), slot);
+            return Some(Carried {
+                key: key_at(b, zeros, slot),
+                slot,
+            });
         }
         zeros = zeros & (zeros - 1);
-        slot += 1;
     }
-    Carried::Nothing
+    None
 }
 
 // How many keys carry a crumb in a backyard bucket.

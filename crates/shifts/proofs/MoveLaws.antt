@@ -1,6 +1,6 @@
 -- A stretch xs whose members from `at` on move up or down by `gap`, n of them a turn: `mixed at xs ys`, where ys is xs moved, zeros coming in.
 -- Main results: `up-part`, `up_turn`, `up-last`, `up-stored` of one that moves up, `down-part`, `down_turn`, `last_turn`, `down-whole` of one that moves down.
-use Rattle.std.proofs.Common.{◌≡◌, ℕ, zero, suc, ◌+◌, ◌-◌, ◌≤◌, List, [], ◌∷◌, ◌++◌, length, take, drop, replicate, sym, ap, ◌∙◌, ap₂, append_assoc, append-nil, le_refl, zero-add, arith, length-append, length-drop, take-append-drop, drop_of_length-le, length-take-le, take_all, take-take, drop-drop, take_at, take-add, drop_at}
+use Rattle.std.proofs.Common.{◌≡◌, ℕ, zero, suc, ◌+◌, ◌-◌, ◌≤◌, List, [], ◌∷◌, ◌++◌, length, take, drop, replicate, sym, ap, ◌∙◌, ap₂, append_assoc, append-nil, zero-add, arith, length-append, length-drop, take-append-drop, drop_of_length-le, length-take-le, take_all, take-take, drop-drop, take_at, take-add, drop_at}
 use native.Mathlib.Nat.{sub-zero, suc-sub-suc, zero-sub}
 use lib.ListN.{length-replicate}
 use lib.Seq.{take-nil, take-append-le, drop-append-le, drop-append-add}
@@ -35,10 +35,6 @@ module _ (k : ℕ) (xs ys : List ℕ) where
       let all : k + (o - k) ≡ o = omega arith in
       let back : drop k (mixed k xs ys) ≡ drop k ys = drop_at (take k xs) (drop k ys) k (length-take-le k xs h) in
       rw (sym all) (sym (drop-drop (o - k) k (mixed k xs ys)) ∙ ap (drop (o - k)) back ∙ drop-drop (o - k) k ys)
-
--- before the first turn up to k nothing is done
-pub up_start : (k : ℕ) (xs t : List ℕ) → k ≤ length t → xs ≡ mixed k xs (mixed k t xs)
-up_start k xs t h = sym (rw (mixed-back k t xs k h (le_refl k)) (take-append-drop k xs))
 
 -- ---- a turn
 

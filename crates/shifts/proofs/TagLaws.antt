@@ -1,27 +1,18 @@
 -- Layout 1: tags of two bytes. A tag put into a stretch of bytes or taken out of it, as loops that move a word of bytes a turn do it.
 -- Main results: `first-up`, `last-down`, `tag-stored`.
-use Rattle.std.proofs.Common.{◌≡◌, ℕ, ◌+◌, ◌-◌, ◌*◌, ◌/◌, ◌%◌, ◌^◌, ◌<◌, ◌≤◌, List, [], ◌∷◌, ◌++◌, length, take, drop, set, replicate, sym, refl, ap, ◌∙◌, ap₂, append_assoc, add-one, arith, lit<, length-append, length-drop, length-take-le, take_all, take-take, drop-drop, take_at}
-use lib.Seq.{drop-append-le, sets-eq}
+use Rattle.std.proofs.Common.{◌≡◌, ℕ, ◌+◌, ◌-◌, ◌*◌, ◌/◌, ◌%◌, ◌^◌, ◌<◌, ◌≤◌, List, ◌∷◌, ◌++◌, length, take, drop, replicate, sym, refl, ap, ◌∙◌, ap₂, arith, lit<, length-append, length-drop, take_all, take-take, drop-drop}
+use lib.Seq.{drop-append-le}
+use Rattle.std.specs.Int.{w16, to_le_bytes}
 use Rattle.multiset.specs.Digits.{digits}
 use Rattle.shifts.specs.Steps.Shifts.{inserted, mixed}
-use Rattle.shifts.proofs.LaneLaws.{digits-take, digits-drop, digits_more, digits_up, length-mixed, mixed-part}
+use Rattle.multiset.proofs.DigitLaws.{length_digits}
+use Rattle.shifts.proofs.LaneLaws.{digits-take, digits-drop, digits_more, digits_up, mixed-part}
 use Rattle.shifts.proofs.MoveLaws.{moved_up, moved_down, length_up, length-down, up-stored}
 
--- ---- two bytes stored
-
-module _ (s : List ℕ) (i a b : ℕ) (h : i + 2 ≤ length s) where
-  stored : set (set s i a) (i + 1) b ≡ (take i s ++ (a ∷ b ∷ [])) ++ drop (i + 2) s
-  stored = rw (add-one i) (sets-eq (a ∷ b ∷ []) s i h)
-
-  front_long : length (take i s ++ (a ∷ b ∷ [])) ≡ i + 2
-  front_long = length-append (take i s) (a ∷ b ∷ []) ∙ ap (λ (n : ℕ). n + 2) (length-take-le i s (omega arith))
-
-  pub stored-take : take (i + 2) (set (set s i a) (i + 1) b) ≡ take i s ++ (a ∷ b ∷ [])
-  stored-take = rw stored (take_at (take i s ++ (a ∷ b ∷ [])) (drop (i + 2) s) (i + 2) front_long)
-
-pub tag-digits : (t : ℕ) → t < 65536 → digits 256 2 t ≡ t % 256 ∷ t / 256 ∷ []
+-- the two bytes of a tag
+pub tag-bytes : (t : ℕ) → to_le_bytes w16 t ≡ digits 256 2 t
 unfolding digits
-tag-digits t h = let high : t / 256 % 256 ≡ t / 256 = omega arith in rw high
+tag-bytes t = refl
 
 -- ---- words of four tags
 
@@ -52,10 +43,7 @@ last-down at last v xs w h l e word =
     word ∙ ap₂ (mixed (at - last)) e down ∙ sym (mixed-part 8 last at xs (moved_down 2 xs) (length-down 2 xs (omega arith)))
 
 -- the tag's bytes at its slot, once the others have moved
-pub tag-stored : (at tag : ℕ) (xs s : List ℕ) → tag < 65536 → at + 2 ≤ length xs → s ≡ mixed at xs (moved_up 2 xs)
-    → set (set s at (tag % 256)) (at + 1) (tag / 256) ≡ take (length xs) (inserted at (digits 256 2 tag) xs)
-tag-stored at tag xs s l h e =
-    let long : length s ≡ length xs = ap length e ∙ length-mixed at xs (moved_up 2 xs) (length_up 2 xs (omega arith)) in
-    let vs : List ℕ = tag % 256 ∷ tag / 256 ∷ [] in
-    rw (tag-digits tag l, sym (up-stored 2 xs (omega arith) at vs refl h), sym e)
-    (stored s at (tag % 256) (tag / 256) (omega arith) ∙ append_assoc (take at s) vs (drop (at + 2) s))
+pub tag-stored : (at tag : ℕ) (xs s bytes : List ℕ) → at + 2 ≤ length xs → s ≡ mixed at xs (moved_up 2 xs) → bytes ≡ digits 256 2 tag
+    → take at s ++ (bytes ++ drop 2 (drop at s)) ≡ take (length xs) (inserted at (digits 256 2 tag) xs)
+tag-stored at tag xs s bytes h e d =
+    rw (d, drop-drop 2 at s, e) (up-stored 2 xs (omega arith) at (digits 256 2 tag) (length_digits 256 2 tag) h)

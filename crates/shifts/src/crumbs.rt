@@ -10,10 +10,7 @@ use crate::lanes::{blend, open_lane, put_at, word_at};
 fn low_lanes(slot: usize) -> u32
     ensures { result ≡ min slot 16 }
 {
-    if slot < 16 {
-        return slot as u32;
-    }
-    16
+    slot.min(16) as u32
 }
 
 // The crumb that falls off the first word, or the new one where all of the word's slots are below it.

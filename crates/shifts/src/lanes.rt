@@ -29,13 +29,7 @@ pub fn blend(x: u64, y: u64, half: u32) -> u64
 fn bytes_below(at: usize, from: usize) -> u32
     ensures { result ≡ min (at - from) 8 }
 {
-    if at < from {
-        return 0;
-    }
-    if 8 <= at - from {
-        return 8;
-    }
-    (at - from) as u32
+    at.saturating_sub(from).min(8) as u32
 }
 
 // The word x that starts at byte `from`, where the bytes from byte `at` on are those of y.

@@ -16,17 +16,15 @@ pub fn insert_tag(s: &mut [u8], slot: usize, tag: u32)
     let at = slot * 2;
     let last = s.len() - 8;
     let top = moved_word(s, last, last - 2, at);
-    let mut o = (last + 7) / 8 * 8;
-    while 8 < o {
-        o -= 8;
+    for turn in (1..(last + 7) / 8).rev() {
+        let o = turn * 8;
         let word = moved_word(s, o, o - 2, at);
         put_at(s, o, word);
     }
     let first = word_at(s, 0);
     put_at(s, 0, from_byte(first, first << 16, 0, at));
     put_at(s, last, top);
-    s[at] = (tag % 256) as u8;
-    s[at + 1] = (tag / 256) as u8;
+    s[at..at + 2].copy_from_slice(&(tag as u16).to_le_bytes());
 }
 
 // The tag at a slot is taken out, and a zero follows the others. Words go from the bottom up.
@@ -38,11 +36,10 @@ pub fn remove_tag(s: &mut [u8], slot: usize)
     let last = s.len() - 8;
     let end = word_at(s, last);
     let top = from_byte(end, end >> 16, last, at);
-    let mut o = 0;
-    while o < last {
+    for turn in 0..(last + 7) / 8 {
+        let o = turn * 8;
         let word = moved_word(s, o, o + 2, at);
         put_at(s, o, word);
-        o += 8;
     }
     put_at(s, last, top);
 }

@@ -23,12 +23,10 @@ pub fn push_all(table: &[u8], keys: &[u32], size: usize, front: Front, target: &
     ensures { (reached result target.new ≡ push_all layout1 size front.0 keys.now target.old)
         × BackyardRead layout1 size front.0 target.new }
 {
-    let mut i = 0;
-    while i < keys.len() {
-        if !push(table, target, size, front, keys[i]) {
+    for &key in keys {
+        if !push(table, target, size, front, key) {
             return false;
         }
-        i += 1;
     }
     true
 }

@@ -17,10 +17,7 @@ pub(crate) fn settle(a: &[u32], b: &[u32], over: &mut [u32]) -> Split
     let mut kept = a.len();
     let mut taken = 0;
     let mut gone = 0;
-    let mut i = 0;
-    while i < b.len() {
-        let key = b[i];
-        i += 1;
+    for &key in b {
         if kept + taken < FRONT_SLOTS {
             taken += 1;
         } else if gives_way(a, kept, key) {

@@ -8,11 +8,19 @@ pub mod said;
 pub mod sum;
 
 use crate::images::State;
+use crate::line::Operation;
 
-// What a line did: another state; a call's operation, its answer and the checksum of the bytes that it was lent; or neither.
+// What a call gave: its answer, and the checksum of the bytes that it was lent.
+#[derive(Clone, Copy)]
+pub struct Answered {
+    pub answer: u64,
+    pub sum: u64,
+}
+
+// What a line did: another state; a call, and what it gave; or neither.
 #[derive(Clone, Copy)]
 pub enum Outcome {
     State(State),
-    Said(u64, u64, u64),
+    Said(Operation, Answered),
     Nothing,
 }

@@ -1,82 +1,127 @@
 // A stored line taken apart.
 
-use text::Digits;
+use crate::images::{Image, image_of};
 use text::hex::number_of;
 
-// An operation, the image that it is performed on, two sources for a merge, a copy or a move, and the numbers p and q.
+// An operation, and the image that it is performed on.
 #[derive(Clone, Copy)]
 pub struct Line {
-    pub operation: u64,
-    pub target: u64,
-    pub first: u64,
-    pub second: u64,
-    pub p: u64,
-    pub q: usize,
+    pub target: Image,
+    pub operation: Operation,
 }
 
-// A line, or other text.
+// What a line has done: a call, bytes set up for the calls that follow, or the change count that their pages bring.
 #[derive(Clone, Copy)]
-pub enum Parsed {
-    Line(Line),
-    Other,
+pub enum Operation {
+    // The image becomes so many zero bytes.
+    Length(usize),
+    Insert(u64),
+    Delete(u64),
+    Ask(u64),
+    Count(u64),
+    Page { start: u64, room: usize },
+    Fresh,
+    Check,
+    Merge { first: Image, second: Image },
+    // Eight bytes of the image become a word.
+    Poke { at: usize, word: u64 },
+    // The image becomes a copy of another.
+    Copy(Image),
+    Row { hash: u64, step: usize },
+    Occupancy { page: u64, room: usize },
+    Attach(Image),
+    Detach(Image),
+    Tail { room: usize },
+    // The change count that the pages bring from here on.
+    Changes(u64),
 }
 
-// The line of 29 digits and a newline.
-pub fn parse(text: &[u8]) -> Parsed {
+impl Operation {
+    // The number that lines have for it.
+    pub fn number(self) -> u64 {
+        match self {
+            Operation::Length(_) => 0,
+            Operation::Insert(_) => 1,
+            Operation::Delete(_) => 2,
+            Operation::Ask(_) => 3,
+            Operation::Count(_) => 4,
+            Operation::Page { .. } => 5,
+            Operation::Fresh => 6,
+            Operation::Check => 7,
+            Operation::Merge { .. } => 8,
+            Operation::Poke { .. } => 9,
+            Operation::Copy(_) => 10,
+            Operation::Row { .. } => 11,
+            Operation::Occupancy { .. } => 12,
+            Operation::Attach(_) => 13,
+            Operation::Detach(_) => 14,
+            Operation::Tail { .. } => 15,
+            Operation::Changes(_) => 16,
+        }
+    }
+}
+
+// The line of 29 digits and a newline: two for the operation, one for each of three images, 16 for p and eight for q. None for other text.
+pub fn parse(text: &[u8]) -> Option<Line> {
     if text.len() != 30 {
-        return Parsed::Other;
+        return None;
     }
     if text[29] != b'\n' {
-        return Parsed::Other;
+        return None;
     }
-    let Digits::Number(head) = number_of(&text[0..5]) else {
-        return Parsed::Other;
-    };
-    let Digits::Number(p) = number_of(&text[5..21]) else {
-        return Parsed::Other;
-    };
-    let Digits::Number(q) = number_of(&text[21..29]) else {
-        return Parsed::Other;
-    };
-    line_of(head, p, q as usize)
+    let head = number_of(&text[0..5])?;
+    let p = number_of(&text[5..21])?;
+    let q = number_of(&text[21..29])? as usize;
+    let x = image_of(head / 256 % 16)?;
+    let y = image_of(head / 16 % 16)?;
+    let z = image_of(head % 16)?;
+    match head / 4096 {
+        8 => merge_of(x, y, z),
+        10 => between(Operation::Copy(x), x, y),
+        13 => between(Operation::Attach(x), x, y),
+        14 => between(Operation::Detach(x), x, y),
+        number => Some(Line {
+            target: x,
+            operation: operation_of(number, p, q)?,
+        }),
+    }
 }
 
-// The line of its first five digits, p and q. Images are numbered 0 to 2.
-fn line_of(head: u64, p: u64, q: usize) -> Parsed {
-    let operation = head / 4096;
-    let x = head / 256 % 16;
-    let y = head / 16 % 16;
-    let z = head % 16;
-    if 2 < x || 2 < y || 2 < z {
-        return Parsed::Other;
-    }
-    if operation == 8 {
-        return joined(operation, x, y, z);
-    }
-    if operation == 10 || operation == 13 || operation == 14 {
-        return joined(operation, x, x, y);
-    }
-    Parsed::Line(Line {
-        operation,
-        target: x,
-        first: 0,
-        second: 0,
-        p,
-        q,
-    })
-}
-
-// A merge, a copy or a move, whose target is none of its sources.
-fn joined(operation: u64, first: u64, second: u64, target: u64) -> Parsed {
+// A merge, whose target is none of its sources.
+fn merge_of(first: Image, second: Image, target: Image) -> Option<Line> {
     if first == target || second == target {
-        return Parsed::Other;
+        return None;
     }
-    Parsed::Line(Line {
-        operation,
+    Some(Line {
         target,
-        first,
-        second,
-        p: 0,
-        q: 0,
+        operation: Operation::Merge { first, second },
     })
+}
+
+// A copy or a move, whose target is not its source.
+fn between(operation: Operation, from: Image, target: Image) -> Option<Line> {
+    if from == target {
+        return None;
+    }
+    Some(Line { target, operation })
+}
+
+// The operation on one image of a number, with p and q.
+fn operation_of(number: u64, p: u64, q: usize) -> Option<Operation> {
+    match number {
+        0 => Some(Operation::Length(q)),
+        1 => Some(Operation::Insert(p)),
+        2 => Some(Operation::Delete(p)),
+        3 => Some(Operation::Ask(p)),
+        4 => Some(Operation::Count(p)),
+        5 => Some(Operation::Page { start: p, room: q }),
+        6 => Some(Operation::Fresh),
+        7 => Some(Operation::Check),
+        9 => Some(Operation::Poke { at: q, word: p }),
+        11 => Some(Operation::Row { hash: p, step: q }),
+        12 => Some(Operation::Occupancy { page: p, room: q }),
+        15 => Some(Operation::Tail { room: q }),
+        16 => Some(Operation::Changes(p)),
+        _ => None,
+    }
 }

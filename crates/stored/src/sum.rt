@@ -3,9 +3,6 @@
 ghost use Rattle.std.specs.Prelude.{◌≡◌};
 ghost use Rattle.stored.specs.Checksums.{mix, checksum};
 
-use crate::images::poke;
-use std::num::wrapping_add_u64;
-
 // The checksum of what a call on one image was lent.
 pub fn of_image(image: &[u8]) -> u64 {
     of_bytes(14695981039346656037, image)
@@ -30,10 +27,7 @@ pub fn of_merge<'a>(first: &'a [u8], second: &'a [u8], target: &[u8]) -> u64 {
 fn mixed(sum: u64, byte: u8) -> u64
     ensures { result ≡ mix sum byte }
 {
-    let t = sum ^ (byte as u64);
-    let high = t / 4294967296 * 435 % 4294967296 * 4294967296;
-    let low = t % 4294967296 * 435;
-    wrapping_add_u64(wrapping_add_u64(t << 40, high), low)
+    (sum ^ (byte as u64)).wrapping_mul(1099511628211)
 }
 
 // All bytes of a slice more.
@@ -41,10 +35,8 @@ fn of_bytes(sum: u64, bytes: &[u8]) -> u64
     ensures { result ≡ checksum sum bytes.now }
 {
     let mut s = sum;
-    let mut i = 0;
-    while i < bytes.len() {
-        s = mixed(s, bytes[i]);
-        i += 1;
+    for &byte in bytes {
+        s = mixed(s, byte);
     }
     s
 }
@@ -52,17 +44,8 @@ fn of_bytes(sum: u64, bytes: &[u8]) -> u64
 // All entries more, each as eight bytes, little-endian.
 fn of_entries(sum: u64, entries: &[u64]) -> u64 {
     let mut s = sum;
-    let mut i = 0;
-    while i < entries.len() {
-        s = of_word(s, entries[i]);
-        i += 1;
+    for entry in entries {
+        s = of_bytes(s, &entry.to_le_bytes());
     }
     s
-}
-
-// The eight bytes of a word more.
-fn of_word(sum: u64, word: u64) -> u64 {
-    let mut bytes = [0u8; 8];
-    poke(&mut bytes, 0, word);
-    of_bytes(sum, &bytes)
 }

@@ -5,6 +5,7 @@ use Prim.Native.Nat.{ℕ, ◌-◌, ◌^◌, ◌<◌}
 use mathlib.Core.Bool.{Bool, true, false, not}
 use mathlib.Core.List.{List, ◌++◌}
 use native.Mathlib.Omega.{arith}
+use Rattle.std.specs.Prelude as S
 use lib.ListN.{length, replicate, take, drop, length-drop, take-append-drop}
 use lib.Seq.{drop-cons}
 use borrow.Rule.Slice.PartMut.{put_mid}
@@ -22,8 +23,6 @@ use Rattle.form.proofs.TailLaws.{length_rest, headed-parts}
 use Rattle.answers.specs.Answers.{numbered, refusal, answer_of, Changes}
 use Rattle.answers.specs.declared.Refusal.{Refusal}
 use Rattle.answers.specs.declared.Refusal.TheVariants.{Spent}
-use Rattle.answers.specs.declared.ChangeResult.{ChangeResult}
-use Rattle.answers.specs.declared.ChangeResult.TheVariants as C
 use Rattle.answers.proofs.ChangeLaws.{changes, change-refused}
 use Rattle.tails.specs.Steps.Openings.{Opens, header_of}
 use Rattle.tails.specs.Steps.Changing.{within, tail_within}
@@ -77,15 +76,15 @@ module _ (h : Header) (m : Result Change) (u : Result Tail) where
   change-spent e = rw (eq-eqb h.tail.changes top e)
 
   module _ (left : h.tail.changes ≡ top → ⊥) (room : Bool) (t : Tail) (adjusts : u ≡ tail_within room t)
-      {b now : List ℕ} {r : ChangeResult} (said : Changes (within room m) b r now) where
+      {b now : List ℕ} {r : S.Result ℕ Refusal} (said : Changes (within room m) b r now) where
     -- a refusal is the call's, and the body is as it was
-    pub body_refused : {why : Refusal} → r ≡ C.Refused why → (changed_by h m u ≡ refusal why) × (now ≡ b)
+    pub body_refused : {why : Refusal} → r ≡ S.Err why → (changed_by h m u ≡ refusal why) × (now ≡ b)
     unfolding changed_by
     body_refused {why} e =
         let w = both-refused h.number t b room m (numbered why).0 (numbered why).1 (rw e at said.answer) in
         (rw (ne_eqb h.tail.changes top left, adjusts) w.0, said.bytes ∙ w.1)
 
-    pub body-accepted : {a : ℕ} → r ≡ C.Accepted a → changed_by h m u ≡ accepted (record { answer = a; image = now ++ tail_bytes h.number t })
+    pub body-accepted : {a : ℕ} → r ≡ S.Ok a → changed_by h m u ≡ accepted (record { answer = a; image = now ++ tail_bytes h.number t })
     unfolding changed_by
     body-accepted {a} e =
         rw (ne_eqb h.tail.changes top left, adjusts, said.bytes) (both-accepted h.number t b room m a (rw e at said.answer))
@@ -104,19 +103,19 @@ unfolding within
 no_room (accepted c) e = never-refused e
 no_room (refused n i) e = never-refused e
 
-pub had-room : (room : Bool) (m : Result Change) {b now : List ℕ} {r : ChangeResult} {a : ℕ} → Changes (within room m) b r now → r ≡ C.Accepted a → room ≡ true
+pub had-room : (room : Bool) (m : Result Change) {b now : List ℕ} {r : S.Result ℕ Refusal} {a : ℕ} → Changes (within room m) b r now → r ≡ S.Ok a → room ≡ true
 had-room true m said e = refl
 had-room false m said e = absurd (no_room m (rw e at said.answer))
 
 module _ {o : Opened} {img : List ℕ} (s : Opens o img) {call : Result Change} (m : Result Change) (u : Result Tail)
     (is : call ≡ changed_by (header_of o.size o.total o.changes) m u) where
-  pub opened_spent : o.changes ≡ top → Changes call img (C.Refused Spent) img
+  pub opened_spent : o.changes ≡ top → Changes call img (S.Err Spent) img
   opened_spent e = changes (is ∙ change-spent (header_of o.size o.total o.changes) m u e) (change-refused Spent img)
 
   module _ (left : o.changes ≡ top → ⊥) (room : Bool) (t : Tail) (adjusts : u ≡ tail_within room t)
-      {last : List ℕ} {r : ChangeResult} (said : Changes (within room m) (take o.end img) r last) where
+      {last : List ℕ} {r : S.Result ℕ Refusal} (said : Changes (within room m) (take o.end img) r last) where
     -- the body came back as it was
-    pub opened-refused : {why : Refusal} → r ≡ C.Refused why → Changes call img (C.Refused why) (last ++ drop o.end img)
+    pub opened-refused : {why : Refusal} → r ≡ S.Err why → Changes call img (S.Err why) (last ++ drop o.end img)
     opened-refused {why} e =
         let w = body_refused (header_of o.size o.total o.changes) m u left room t adjusts said e in
         rw (w.1, take-append-drop o.end img) (changes (is ∙ w.0) (change-refused why img))
@@ -125,8 +124,8 @@ module _ {o : Opened} {img : List ℕ} (s : Opens o img) {call : Result Change} 
     pub opened-accepted : {a : ℕ} {new : List ℕ} → length last ≡ o.end
         → new ≡ digits 256 8 t.total ++ (digits 256 8 t.changes
         ++ drop 16 (take (length (last ++ drop o.end img) - o.end) (drop o.end (last ++ drop o.end img))))
-        → r ≡ C.Accepted a
-        → Changes call img (C.Accepted a) (put_mid o.end (length (last ++ drop o.end img) - o.end) (last ++ drop o.end img) new)
+        → r ≡ S.Ok a
+        → Changes call img (S.Ok a) (put_mid o.end (length (last ++ drop o.end img) - o.end) (last ++ drop o.end img) new)
     opened-accepted {a} {new} long wrote e =
         let tail : new ≡ tail_bytes 1 t =
         wrote ∙ rw (end-lent o.end last (drop o.end img) long, rest_part img s.end) (tail-anew s t) in

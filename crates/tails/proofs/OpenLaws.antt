@@ -6,6 +6,7 @@ use mathlib.Core.Bool.{Bool, true, false, ◌&&◌}
 use mathlib.Core.List.{List}
 use mathlib.Core.Option.{none, some}
 use native.Mathlib.Omega.{arith}
+use Rattle.std.specs.Prelude as S
 use lib.ListN.{length, drop}
 use lib.Dec.{leb, eqb}
 use borrow.Author.Tests.{eqb-true}
@@ -20,12 +21,8 @@ use Rattle.answers.specs.declared.Refusal.{Refusal}
 use Rattle.answers.specs.declared.Tail as A
 use Rattle.image.specs.Steps.ImageReads.{Whole}
 use Rattle.image.proofs.ImageReadLaws.{whole_of, whole-sized}
-use Rattle.tails.specs.Steps.Openings.{tail_reading_of, header_of, TailSays, Opens, OpenSays}
+use Rattle.tails.specs.Steps.Openings.{tail_reading_of, header_of, TailSays, Opens}
 use Rattle.tails.specs.declared.Opened.{Opened}
-use Rattle.tails.specs.declared.Opening.{Opening}
-use Rattle.tails.specs.declared.Opening.TheVariants as O
-use Rattle.tails.specs.declared.TailReading.{TailReading}
-use Rattle.tails.specs.declared.TailReading.TheVariants as R
 
 -- ---- lengths
 
@@ -65,21 +62,21 @@ module _ (B : ℕ) (img : List ℕ) where
 
   -- by the tests that the code makes
   said : (m z t : Bool) → eqb (mark_of img) 1 ≡ m → all_zero (drop 17 (rest img)) ≡ z → leb (tail_in (rest img)).total (slots layout1 B) ≡ t
-      → {r : TailReading} → r ≡ tail_reading_of (slots layout1 B) (rest img) → TailSays B img r
+      → {r : S.Option A.Tail} → r ≡ tail_reading_of (slots layout1 B) (rest img) → TailSays B img r
   unfolding tail_reading_of mark_of
   said true true true p q s e = rw (e, p, q, s) (marked p q s)
   said true true false p q s e = rw (e, p, q, s) (spoilt p (rw (q, s)))
   said true false t p q s e = rw (e, p, q) (spoilt p (rw q))
   said false z t p q s e = rw (e, p) (unmarked p)
 
-  pub tail-said : {r : TailReading} → r ≡ tail_reading_of (slots layout1 B) (rest img) → TailSays B img r
+  pub tail-said : {r : S.Option A.Tail} → r ≡ tail_reading_of (slots layout1 B) (rest img) → TailSays B img r
   tail-said e = said (eqb (mark_of img) 1) (all_zero (drop 17 (rest img))) (leb (tail_in (rest img)).total (slots layout1 B)) refl refl refl e
 
-  module _ {r : TailReading} (says : TailSays B img r) where
-    pub tail-bad : r ≡ R.Bad → headed known B img ≡ refused 11 0
+  module _ {r : S.Option A.Tail} (says : TailSays B img r) where
+    pub tail-bad : r ≡ S.None → headed known B img ≡ refused 11 0
     tail-bad e = rw e at says
 
-    pub tail-good : {t : A.Tail} → r ≡ R.Good t → headed known B img ≡ accepted (header_of B t.total t.changes)
+    pub tail-good : {t : A.Tail} → r ≡ S.Some t → headed known B img ≡ accepted (header_of B t.total t.changes)
     tail-good e = rw e at says
 
 -- ---- an image opened
@@ -93,14 +90,6 @@ module _ (img : List ℕ) where
     pub open_by : opened known img ≡ headed known B img
     unfolding opened
     open_by = rw (whole-sized w)
-
--- what opening an image said
-module _ (img : List ℕ) {r : Opening} (says : OpenSays img r) where
-  pub said-open : {o : Opened} → r ≡ O.At o → Opens o img
-  said-open e = rw e at says
-
-  pub said-shut : {why : Refusal} → r ≡ O.Refused why → opened known img ≡ refusal why
-  said-shut e = rw e at says
 
 pub opened-at : {o : Opened} {img : List ℕ} → Opens o img → opened known img ≡ accepted (header_of o.size o.total o.changes)
 opened-at {o} {img} s = open_by img s.whole ∙ s.header

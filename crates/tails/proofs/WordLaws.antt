@@ -5,6 +5,7 @@ use Prim.Native.Nat.{ℕ, zero, suc, ◌+◌, ◌*◌, ◌≤◌, ◌<◌}
 use mathlib.Core.Bool.{Bool, true, false, cond, ◌&&◌}
 use mathlib.Core.List.{List, [], ◌∷◌}
 use native.Mathlib.Omega.{arith}
+use Rattle.std.specs.Prelude as S
 use native.Mathlib.Decide.{ℕ_discrete}
 use lib.ListN.{length, take, drop, get_or}
 use lib.Seq.{drop-drop, drop-cons}
@@ -13,9 +14,8 @@ use borrow.Author.Tests.{eq-eqb, ne_eqb, le-leb, lt-leb}
 use Rattle.multiset.specs.Multisets.{all_zero}
 use Rattle.multiset.specs.Digits.{value}
 use Rattle.form.specs.Tails.{tail_in}
+use Rattle.answers.specs.declared.Tail.{Tail}
 use Rattle.tails.specs.Steps.Openings.{tail_reading_of}
-use Rattle.tails.specs.declared.TailReading.{TailReading}
-use Rattle.tails.specs.declared.TailReading.TheVariants as R
 
 and_assoc : (a b c : Bool) → (a && b) && c ≡ a && (b && c)
 and_assoc true b c = refl
@@ -52,25 +52,25 @@ tail-tests b l =
     (sym (and_assoc (eqb (get_or b 16 0) 1) (eqb (value 256 (take 7 (drop 17 b))) 0) (all_zero (drop 24 b))))
 
 module _ (most : ℕ) (b : List ℕ) where
-  abbrev good : TailReading
-  good = R.Good (record { total = (tail_in b).total; changes = (tail_in b).changes })
+  abbrev good : S.Option Tail
+  good = S.Some (record { total = (tail_in b).total; changes = (tail_in b).changes })
 
-  cased : (z t : Bool) → eqb (get_or b 16 0) 1 && all_zero (drop 17 b) ≡ z → leb (tail_in b).total most ≡ t → cond (z && t) good R.Bad ≡ tail_reading_of most b
+  cased : (z t : Bool) → eqb (get_or b 16 0) 1 && all_zero (drop 17 b) ≡ z → leb (tail_in b).total most ≡ t → cond (z && t) good S.None ≡ tail_reading_of most b
   unfolding tail_reading_of
   cased z t p q = rw (p, q)
 
-  pub tail-over : most < (tail_in b).total → R.Bad ≡ tail_reading_of most b
+  pub tail-over : most < (tail_in b).total → S.None ≡ tail_reading_of most b
   tail-over h = go (eqb (get_or b 16 0) 1 && all_zero (drop 17 b)) refl
     where
-      go : (z : Bool) → eqb (get_or b 16 0) 1 && all_zero (drop 17 b) ≡ z → R.Bad ≡ tail_reading_of most b
+      go : (z : Bool) → eqb (get_or b 16 0) 1 && all_zero (drop 17 b) ≡ z → S.None ≡ tail_reading_of most b
       go true p = cased true false p (lt-leb (tail_in b).total most h)
       go false p = cased false false p (lt-leb (tail_in b).total most h)
 
   module _ (l : length b ≡ 64) where
-    pub tail-marked : (value 256 (take 8 (drop 16 b)) ≡ 1 → ⊥) → R.Bad ≡ tail_reading_of most b
+    pub tail-marked : (value 256 (take 8 (drop 16 b)) ≡ 1 → ⊥) → S.None ≡ tail_reading_of most b
     tail-marked h = cased false (leb (tail_in b).total most) (tail-tests b l ∙ rw (ne_eqb (value 256 (take 8 (drop 16 b))) 1 h)) refl
 
-    pub tail-spoilt : value 256 (take 8 (drop 16 b)) ≡ 1 → all_zero (drop 24 b) ≡ false → R.Bad ≡ tail_reading_of most b
+    pub tail-spoilt : value 256 (take 8 (drop 16 b)) ≡ 1 → all_zero (drop 24 b) ≡ false → S.None ≡ tail_reading_of most b
     tail-spoilt h z = cased false (leb (tail_in b).total most) (tail-tests b l ∙ rw (eq-eqb (value 256 (take 8 (drop 16 b))) 1 h, z)) refl
 
     pub tail-fit : (tail_in b).total ≤ most → value 256 (take 8 (drop 16 b)) ≡ 1 → all_zero (drop 24 b) ≡ true → good ≡ tail_reading_of most b

@@ -5,19 +5,16 @@ ghost use Rattle.answers.specs.Answers.{Freshens};
 
 use crate::open::form_size;
 use crate::tail::start_tail;
-use answers::{Outcome, Refusal};
-use image::Size;
+use answers::Refusal;
 use image::fresh::clear_all;
 
 // The image becomes an empty catalogue, whatever its bytes were.
-pub fn fresh(image: &mut [u8]) -> Outcome
+pub fn fresh(image: &mut [u8]) -> Result<(), Refusal>
     ensures { Freshens image.old result image.new }
 {
-    let Size::Buckets(size) = form_size(image.len()) else {
-        return Outcome::Refused(Refusal::WrongLength);
-    };
+    let size = form_size(image.len()).ok_or(Refusal::WrongLength)?;
     let end = image.len() - 64;
     clear_all(&mut image[..end], 9 * size + 7);
     start_tail(&mut image[end..], 0);
-    Outcome::Accepted
+    Ok(())
 }

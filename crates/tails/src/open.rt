@@ -9,24 +9,23 @@ ghost use Rattle.answers.specs.Answers.{tailed_of};
 ghost use Rattle.image.specs.Steps.ImageReads.{sizing, Whole};
 ghost use Rattle.tails.specs.Steps.Openings.{TailSays, OpenSays};
 
+use crate::Opened;
 use crate::tail::{read_tail, slots_of};
-use crate::{Opened, Opening, TailReading};
-use answers::{Refusal, Tail, TailResult};
-use image::Size;
+use answers::{Refusal, Tail};
 use image::place::size_of;
 
-// "The new form is 64 bytes longer": the size of an image of so many bytes.
-pub fn form_size(len: usize) -> Size
+// "The new form is 64 bytes longer": the size of an image of so many bytes, none where no image has this length.
+pub fn form_size(len: usize) -> Option<usize>
     ensures { result ≡ sizing (size_of (len - 64)) }
 {
     if len < 64 {
-        return Size::Wrong;
+        return None;
     }
     size_of(len - 64)
 }
 
-// What the tail of an image of a size tells, or that it is bad.
-pub fn tail_at(image: &[u8], size: usize) -> TailReading
+// What the tail of an image of a size tells, none where it is bad.
+pub fn tail_at(image: &[u8], size: usize) -> Option<Tail>
     requires { Whole size (body image.now) }
     ensures { TailSays size image.now result }
 {
@@ -35,32 +34,26 @@ pub fn tail_at(image: &[u8], size: usize) -> TailReading
 }
 
 // The size of an image and what its tail tells: 1, then 11.
-pub fn open_image(image: &[u8]) -> Opening
+pub fn open_image(image: &[u8]) -> Result<Opened, Refusal>
     ensures { OpenSays image.now result }
 {
-    let Size::Buckets(size) = form_size(image.len()) else {
-        return Opening::Refused(Refusal::WrongLength);
-    };
-    match tail_at(image, size) {
-        TailReading::Bad => Opening::Refused(Refusal::BadTail),
-        TailReading::Good(tail) => Opening::At(Opened {
-            size,
-            end: image.len() - 64,
-            total: tail.total,
-            changes: tail.changes,
-        }),
-    }
+    let size = form_size(image.len()).ok_or(Refusal::WrongLength)?;
+    let tail = tail_at(image, size).ok_or(Refusal::BadTail)?;
+    Ok(Opened {
+        size,
+        end: image.len() - 64,
+        total: tail.total,
+        changes: tail.changes,
+    })
 }
 
 // What the tail of an image tells: "stock lists need the member total without a walk".
-pub fn tail(image: &[u8]) -> TailResult
+pub fn tail(image: &[u8]) -> Result<Tail, Refusal>
     ensures { tailed_of result ≡ tail_of known image.now }
 {
-    match open_image(image) {
-        Opening::Refused(why) => TailResult::Refused(why),
-        Opening::At(opened) => TailResult::Accepted(Tail {
-            total: opened.total,
-            changes: opened.changes,
-        }),
-    }
+    let opened = open_image(image)?;
+    Ok(Tail {
+        total: opened.total,
+        changes: opened.changes,
+    })
 }

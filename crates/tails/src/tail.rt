@@ -7,10 +7,8 @@ ghost use Rattle.crumbmap.specs.Layouts.{layout1};
 ghost use Rattle.form.specs.Tails.{slots, started, tail_bytes};
 ghost use Rattle.tails.specs.Steps.Openings.{tail_reading_of};
 
-use crate::TailReading;
 use answers::Tail;
 use crumbmap::layout::{BACK_SLOTS, FRONT_SLOTS};
-use edits::edit::fill;
 use words::word::{put_word, word_of};
 
 // "The top change count 2^64 − 1."
@@ -29,32 +27,30 @@ fn rest_zero(b: &[u8]) -> bool
     requires { length b.now ≡ 64 }
     ensures { result ≡ all_zero (drop 24 b.now) }
 {
-    let mut at = 24;
-    while at < 64 {
-        if word_at(b, at) != 0 {
+    for i in 3..8 {
+        if word_at(b, 8 * i) != 0 {
             return false;
         }
-        at += 8;
     }
     true
 }
 
-// A tail of an image that has `most` slots. Layout 1 in byte 16 and noughts behind it are the number 1 in bytes 16 to 23.
-pub fn read_tail(b: &[u8], most: u64) -> TailReading
+// A tail of an image that has `most` slots, none where it is bad. Layout 1 in byte 16 and noughts behind it are the number 1 in bytes 16 to 23.
+pub fn read_tail(b: &[u8], most: u64) -> Option<Tail>
     requires { length b.now ≡ 64 }
     ensures { result ≡ tail_reading_of most b.now }
 {
     let total = word_at(b, 0);
     if most < total {
-        return TailReading::Bad;
+        return None;
     }
     if word_at(b, 16) != 1 {
-        return TailReading::Bad;
+        return None;
     }
     if !rest_zero(b) {
-        return TailReading::Bad;
+        return None;
     }
-    TailReading::Good(Tail {
+    Some(Tail {
         total,
         changes: word_at(b, 8),
     })
@@ -82,7 +78,7 @@ pub fn start_tail(b: &mut [u8], total: u64)
     requires { length b.old ≡ 64 }
     ensures { b.new ≡ tail_bytes 1 (started total) }
 {
-    fill(b, 0);
+    b.fill(0);
     put_word(b, total);
     b[16] = 1;
 }

@@ -1,5 +1,5 @@
 -- Text written over an output: a piece behind a piece is one longer piece; the lengths of lines.
--- Main results: over-next, over-set, over-written, over-all, over-hex, over-line, over-more, text-more.
+-- Main results: over-next, over-set, over-written, over-all, over-hex, over-line, over-more.
 use mathlib.Core.Path.{◌≡◌, refl, sym, ◌∙◌, ap}
 use Prim.Native.Nat.{ℕ, zero, suc, ◌+◌, ◌*◌, ◌-◌, ◌/◌, ◌≤◌, ◌<◌}
 use mathlib.Core.List.{List, [], ◌∷◌, ◌++◌, append_assoc, append-nil}
@@ -131,11 +131,3 @@ over-more i es xs ys zs h l e f =
     f ∙ rw e
     (over-next 21 (21 + 17 * i) (entry_lines (take i es)) (entry (get_or es i 0)) xs n l
     ∙ rw (add-one i, take-suc es i 0 h, entry_lines-snoc (take i es) (get_or es i 0)))
-
--- one byte more is copied
-pub text-more : (i : ℕ) (text xs ys : List ℕ) → i < length text → i < length ys → ys ≡ over 0 (take i text) xs
-    → set ys i (get_or text i 0) ≡ over 0 (take (i + 1) text) xs
-text-more i text xs ys h l e =
-    let k : length (take i text) ≡ i = length-take-le i text (omega arith) in
-    over-set i (get_or text i 0) ys l ∙ rw e
-    (over-next 0 i (take i text) (get_or text i 0 ∷ []) xs (omega arith) (omega arith) ∙ rw (add-one i, take-suc text i 0 h))

@@ -5,6 +5,7 @@ use mathlib.Core.Bool.{Bool, true, false, cond, ◌&&◌}
 use mathlib.Core.List.{List, [], ◌∷◌, ◌++◌, append_assoc}
 use mathlib.Core.Option.{Option, none, some, bind}
 use native.Mathlib.Omega.{arith}
+use Rattle.std.specs.Prelude as S
 use native.Mathlib.Nat.{pow-suc, pow-le-pow_right}
 use native.Mathlib.Numerals.{add-one}
 use lib.ListN.{length, drop, get_or, set, length-set}
@@ -13,7 +14,6 @@ use lib.Dec.{leb}
 use borrow.Author.Tests.{leb-true}
 use Rattle.text.specs.Texts.{letter, digit_of, hex, unhex}
 use Rattle.text.specs.Lines.{digits_of}
-use Rattle.text.specs.declared.Digits.TheVariants.{Number, Other}
 
 -- a byte that is stored in front of those that stand, behind a text w that is still to write
 pub stands-before : (w out : List ℕ) (i d : ℕ) → i < length out → (w ++ (d ∷ [])) ++ drop (suc i) out ≡ w ++ drop i (set out i d)
@@ -49,11 +49,11 @@ pub digit_room : (i v d : ℕ) → i < 16 → v < 16 ^ i → d < 16 → v * 16 +
 digit_room i v d l h k = let p : i + 1 ≤ 16 = omega arith in omega (arith, digit-fits i v d h k, pow-le-pow_right {n = 16} (omega arith) p)
 
 -- what a byte's digit says
-pub digit-some : (o : Option ℕ) (d : ℕ) → digits_of o ≡ Number d → o ≡ some d
+pub digit-some : (o : Option ℕ) (d : ℕ) → digits_of o ≡ S.Some d → o ≡ some d
 digit-some none d e = let z : ◌≡◌ {A = ℕ} 0 1 = cc in absurd (omega arith)
 digit-some (some v) d e = cc
 
-pub digit-none : (o : Option ℕ) → digits_of o ≡ Other → o ≡ none
+pub digit-none : (o : Option ℕ) → digits_of o ≡ S.None → o ≡ none
 digit-none none e = refl
 digit-none (some v) e = let z : ◌≡◌ {A = ℕ} 0 1 = cc in absurd (omega arith)
 

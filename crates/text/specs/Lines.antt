@@ -1,15 +1,14 @@
 -- The lines that the small program prints, each with its newline.
 use Rattle.std.specs.Prelude.{ℕ, List, [], ◌∷◌, ◌++◌}
+use Rattle.std.specs.Prelude as S
 use Rattle.std.proofs.Math.Option.{Option, none, some}
 use Rattle.answers.specs.declared.pairs.Said.{Said}
 use Rattle.text.specs.Texts.{hex}
-use Rattle.text.specs.declared.Digits.{Digits}
-use Rattle.text.specs.declared.Digits.TheVariants.{Number, Other}
 
 -- digits that were read, or that one of the bytes is none
-abbrev pub digits_of : Option ℕ → Digits
-digits_of none = Other
-digits_of (some v) = Number v
+abbrev pub digits_of : Option ℕ → S.Option ℕ
+digits_of none = S.None
+digits_of (some v) = S.Some v
 
 -- "a line of 16 digits", with its newline
 unfoldable pub entry : ℕ → List ℕ

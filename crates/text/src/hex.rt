@@ -4,8 +4,6 @@ ghost use Rattle.std.specs.Prelude.{◌≡◌, ◌<◌, ◌≤◌, length};
 ghost use Rattle.text.specs.Texts.{letter, digit_of, hex, unhex};
 ghost use Rattle.text.specs.Lines.{digits_of};
 
-use crate::Digits;
-
 // The ASCII byte of a digit.
 pub fn letter_of(digit: u8) -> u8
     requires { digit < 16 }
@@ -18,48 +16,41 @@ pub fn letter_of(digit: u8) -> u8
 pub fn put_hex(out: &mut [u8], number: u64)
     ensures { out.new ≡ hex (length out.old) number }
 {
-    let mut i = out.len();
     let mut v = number;
-    while 0 < i {
-        i -= 1;
+    for i in (0..out.len()).rev() {
         out[i] = letter_of((v % 16) as u8);
         v /= 16;
     }
 }
 
-// The digit of an ASCII byte.
-pub fn digit_of(byte: u8) -> Digits
+// The digit of an ASCII byte, none where it is no such digit.
+pub fn digit_of(byte: u8) -> Option<u64>
     ensures { result ≡ digits_of (digit_of byte) }
 {
     if byte < 48 {
-        return Digits::Other;
+        return None;
     }
     if byte <= 57 {
-        return Digits::Number((byte - 48) as u64);
+        return Some((byte - 48) as u64);
     }
     if byte < 65 {
-        return Digits::Other;
+        return None;
     }
     if byte <= 70 {
-        return Digits::Number((byte - 55) as u64);
+        return Some((byte - 55) as u64);
     }
-    Digits::Other
+    None
 }
 
-// The number of at most 16 hex digits.
-pub fn number_of(text: &[u8]) -> Digits
+// The number of at most 16 hex digits, none where one of the bytes is no such digit.
+pub fn number_of(text: &[u8]) -> Option<u64>
     requires { length text.now ≤ 16 }
     ensures { result ≡ digits_of (unhex 0 text.now) }
 {
     let mut v: u64 = 0;
-    let mut i = 0;
-    while i < text.len() {
-        let b = text[i];
-        let Digits::Number(d) = digit_of(b) else {
-            return Digits::Other;
-        };
-        v = v * 16 + d;
-        i += 1;
+    for byte in text {
+        let digit = digit_of(*byte)?;
+        v = v * 16 + digit;
     }
-    Digits::Number(v)
+    Some(v)
 }

@@ -41,10 +41,8 @@ pub fn put_entries(out: &mut [u8], entries: &[u64])
     requires { 21 + 17 * length entries.now ≤ length out.old }
     ensures { out.new ≡ over 21 (entry_lines entries.now) out.old }
 {
-    let mut i = 0;
-    while i < entries.len() {
-        put_entry(out, 21 + 17 * i, entries[i]);
-        i += 1;
+    for (i, entry) in entries.iter().enumerate() {
+        put_entry(out, 21 + 17 * i, *entry);
     }
 }
 
@@ -53,11 +51,7 @@ pub fn put_text(text: &[u8], out: &mut [u8])
     requires { length text.now ≤ length out.old }
     ensures { out.new ≡ over 0 text.now out.old }
 {
-    let mut i = 0;
-    while i < text.len() {
-        out[i] = text[i];
-        i += 1;
-    }
+    out[..text.len()].copy_from_slice(text);
 }
 
 // "Any other line is malformed; such a line is answered by `FF090000000000000000`"; how many bytes that is.

@@ -6,16 +6,17 @@ use reading::fill;
 use script::perform::step;
 use std::io;
 use std::io::{Stdin, Stdout, Write};
-use stored::Outcome;
 use stored::images::State;
+use stored::line::Operation;
 use stored::said::put_said;
+use stored::{Answered, Outcome};
 
 // The answer of a call is printed; the state after what was done.
 fn told(output: Stdout, done: Outcome, state: State) -> io::Result<State> {
     match done {
         Outcome::State(next) => Ok(next),
-        Outcome::Said(operation, answer, sum) => {
-            print(output, operation, answer, sum)?;
+        Outcome::Said(operation, given) => {
+            print(output, operation, given)?;
             Ok(state)
         }
         Outcome::Nothing => Ok(state),
@@ -23,13 +24,13 @@ fn told(output: Stdout, done: Outcome, state: State) -> io::Result<State> {
 }
 
 // The line that answers a call, on standard output.
-fn print(mut output: Stdout, operation: u64, answer: u64, sum: u64) -> io::Result<()> {
-    let mut text = [10u8; 35];
-    put_said(&mut text, operation, answer, sum);
+fn print(mut output: Stdout, operation: Operation, given: Answered) -> io::Result<()> {
+    let mut text = [b'\n'; 35];
+    put_said(&mut text, operation, given);
     output.write_all(&text)
 }
 
-// Line after line. A proved loop has to end, and nothing says that the input does: the turns are counted down from a number that no run uses up.
+// Line after line. A proved loop has to end, and nothing says that the input does: it has more turns than any run uses up.
 fn run(
     mut input: Stdin,
     output: Stdout,
@@ -45,15 +46,13 @@ fn run(
         c: 0,
         changes: 0,
     };
-    let mut turns = u64::MAX;
-    while 0 < turns {
+    for _ in 0..u64::MAX {
         let n = fill(&mut input, &mut text)?;
         if n < 30 {
             return Ok(());
         }
         let done = step(&text, state, a, b, c, out);
         state = told(output, done, state)?;
-        turns -= 1;
     }
     Ok(())
 }

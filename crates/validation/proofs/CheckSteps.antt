@@ -1,8 +1,8 @@
 -- The steps of a check, for any layout: what a pass over buckets or members still has before it, and what it has counted, turn by turn; what is known
 -- once every bucket was read; what a check that counts says. Main results: `front-on`, `back_on`, `early-on`, `members-on` with their `-stop` and
--- `-end`; `counts-on`; `turn-short`, `turn-full`, `member-homed`; `all_read`; `check-refused`, `check-counted`, `total-refused`,
--- `total-passed`.
+-- `-end`; `counts-on`; `turn-short`, `turn-full`, `member-homed`; `all_read`; `check-refused`, `check-counted`.
 use mathlib.Core.Path.{◌≡◌, refl, sym, ◌∙◌}
+use Rattle.std.specs.Prelude as S
 use Prim.Native.Nat.{ℕ, suc, ◌+◌, ◌/◌, ◌%◌, ◌-◌, ◌≤◌, ◌<◌}
 use mathlib.Core.Bool.{Bool, true, false, not}
 use mathlib.Core.List.{List}
@@ -20,45 +20,19 @@ use Rattle.multiset.proofs.SumLaws.{sum-last}
 use Rattle.crumbmap.specs.Layouts.{Layout, fronts, backyards}
 use Rattle.crumbmap.specs.CrumbMap.{home}
 use Rattle.crumbmap.specs.Steps.Places.{Homed}
-use Rattle.buckets.specs.Buckets.{Fits64, is_some, valid, front_members, back_members}
-use Rattle.minifilter.specs.Steps.Readings.{reading_of}
+use Rattle.buckets.specs.Buckets.{Fits64, is_some, valid}
 use Rattle.machine.specs.Results.{Result, accepted, refused, and_then}
-use Rattle.machine.specs.Images.{bucket_at, front_at, back_at, in_front, in_back}
+use Rattle.machine.specs.Images.{front_at, back_at, in_front, in_back}
 use Rattle.machine.specs.Machine.{occupancy}
 use Rattle.machine.specs.Checks.{unsound_front, unsound_back, in_turn, home_in_turn, all_in_turn, early, check_sized}
 use Rattle.machine.proofs.ChoiceLaws.{valid-member}
 use Rattle.machine.proofs.CheckLaws.{fronts-read, backs-read}
-use Rattle.machine.proofs.AcceptedLaws.{same_answer, never-refused, was-sound, and_then-accepted}
-use Rattle.form.specs.Tails.{Header, members}
-use Rattle.form.specs.Calls.{checked_by}
-use Rattle.answers.specs.Answers.{refusal, outcome_of}
-use Rattle.answers.specs.declared.Refusal.{Refusal}
-use Rattle.answers.specs.declared.Outcome.{Outcome}
-use Rattle.answers.specs.declared.Outcome.TheVariants as D
+use Rattle.machine.proofs.AcceptedLaws.{same_answer, never-refused, and_then-accepted}
+use Rattle.form.specs.Tails.{members}
 use Rattle.image.specs.Steps.ImageReads.{FrontRead, BackRead, FrontFull, Whole}
 use Rattle.image.proofs.ImageReadLaws.{front-in, back_in}
-use Rattle.image.proofs.PartLaws.{front-says, back-says}
-use Rattle.validation.specs.Steps.Passes.{Counts, FrontsCounted, BacksCounted, FrontsSay, BacksSay, fault_of, AllRead, checked_of, counted_check}
-use Rattle.validation.specs.declared.Tally.{Tally}
-use Rattle.validation.specs.declared.Tally.TheVariants as T
-use Rattle.validation.specs.declared.Fault.{Fault}
-use Rattle.validation.specs.declared.Fault.TheVariants as F
-use Rattle.validation.specs.declared.Checked.{Checked}
-use Rattle.validation.specs.declared.Checked.TheVariants as C
-
--- what a pass over buckets said of them
-module _ (L : Layout) (B : ℕ) (img : List ℕ) {r : Tally} where
-  pub fronts-told : FrontsSay L B img r → {m : ℕ} → r ≡ T.Members m → FrontsCounted L B img m
-  fronts-told said e = rw e at said
-
-  pub fronts-unsound : FrontsSay L B img r → {i : ℕ} → r ≡ T.Unsound i → unsound_front L (fronts B) 0 img ≡ some i
-  fronts-unsound said e = rw e at said
-
-  pub backs-told : BacksSay L B img r → {m : ℕ} → r ≡ T.Members m → BacksCounted L B img m
-  backs-told said e = rw e at said
-
-  pub backs-unsound : BacksSay L B img r → {i : ℕ} → r ≡ T.Unsound i → unsound_back L B (backyards B) 0 img ≡ some i
-  backs-unsound said e = rw e at said
+use Rattle.image.proofs.PartLaws.{front_read, back_read}
+use Rattle.validation.specs.Steps.Passes.{Counts, fault_of, AllRead, counted_check}
 
 -- none is counted, and one more
 module _ (read : ℕ → Result (List ℕ)) (k : ℕ) where
@@ -74,13 +48,13 @@ module _ (read : ℕ → Result (List ℕ)) (k : ℕ) where
       }
 
 -- what a fault says
-pub fault-none : (o : Option ℕ) {r : Fault} → r ≡ fault_of o → r ≡ F.Nowhere → o ≡ none
-fault-none none e f = refl
-fault-none (some i) e f = let z : ◌≡◌ {A = ℕ} 0 1 = cc in absurd (omega arith)
+pub fault-none : (o : Option ℕ) → S.None ≡ fault_of o → o ≡ none
+fault-none none e = refl
+fault-none (some i) e = cc
 
-pub fault-some : (o : Option ℕ) {r : Fault} {i : ℕ} → r ≡ fault_of o → r ≡ F.At i → o ≡ some i
-fault-some none e f = let z : ◌≡◌ {A = ℕ} 0 1 = cc in absurd (omega arith)
-fault-some (some j) e f = cc
+pub fault-some : (o : Option ℕ) {i : ℕ} → S.Some i ≡ fault_of o → o ≡ some i
+fault-some none e = cc
+fault-some (some j) e = cc
 
 -- one is left, and then one less
 left : (n f : ℕ) → f < n → n - f ≡ suc (n - (f + 1))
@@ -170,16 +144,10 @@ member-homed B j s ys v l = go (home B j (get_or ys s 0 % 16)) refl (valid-membe
 
 module _ {L : Layout} (fits : Fits64 L) {B : ℕ} {img : List ℕ} (whole : Whole B img) (bytes : (i : ℕ) → get_or img i 0 < 256) where
   pub front-was-read : (f : ℕ) {xs : List ℕ} → f < fronts B → front_at L f img ≡ accepted xs → FrontRead L f img
-  unfolding front_at
-  front-was-read f {xs} h e =
-      let sound = was-sound f (front_members L (bucket_at f img)) xs e in
-      (front-says L fits f 0 img (front-in (record { whole = whole; front = h })) bytes {r = reading_of 0 (some xs)} (rw sound)).0
+  front-was-read f h e = front_read L fits f img (front-in (record { whole = whole; front = h })) bytes e
 
   pub back-was-read : (j : ℕ) {ys : List ℕ} → j < backyards B → back_at L B j img ≡ accepted ys → BackRead L B j img
-  unfolding back_at
-  back-was-read j {ys} h e =
-      let sound = was-sound (fronts B + j) (back_members L B j (bucket_at (fronts B + j) img)) ys e in
-      (back-says L fits B j 0 img (back_in whole h) bytes {r = reading_of 0 (some ys)} (rw sound)).0
+  back-was-read j h e = back_read L fits B j img (back_in whole h) bytes e
 
   pub all_read : unsound_front L (fronts B) 0 img ≡ none → unsound_back L B (backyards B) 0 img ≡ none → AllRead L B img
   all_read p q = record {
@@ -195,21 +163,13 @@ answered-refused : {A C : Type 0} (r : Result A) (a : C) {n i : ℕ} → and_the
 answered-refused (accepted b) a e = absurd (never-refused e)
 answered-refused (refused m j) a e = cc
 
-module _ (L : Layout) (B : ℕ) (img : List ℕ) {r : Checked} (said : checked_of r ≡ counted_check L B img) where
-  pub check-refused : {why : Refusal} → r ≡ C.Refused why → check_sized L B img ≡ refusal why
+module _ (L : Layout) (B : ℕ) (img : List ℕ) where
+  pub check-refused : {n i : ℕ} → refused n i ≡ counted_check L B img → check_sized L B img ≡ refused n i
   unfolding counted_check
-  check-refused e = answered-refused (check_sized L B img) (members L B img) (sym (rw e at said))
+  check-refused e = answered-refused (check_sized L B img) (members L B img) (sym e)
 
-  pub check-counted : {n : ℕ} → r ≡ C.Members n → (check_sized L B img ≡ accepted tt) × (members L B img ≡ n)
+  pub check-counted : {n : ℕ} → accepted n ≡ counted_check L B img → (check_sized L B img ≡ accepted tt) × (members L B img ≡ n)
   unfolding counted_check
   check-counted {n} e =
-      let p = and_then-accepted (check_sized L B img) (λ _. accepted (members L B img)) n (sym (rw e at said)) in
+      let p = and_then-accepted (check_sized L B img) (λ _. accepted (members L B img)) n (sym e) in
       (p.1, same_answer p.2)
-
--- what a check by a header said
-module _ (h : Header) (b : List ℕ) {r : Outcome} (said : outcome_of r ≡ checked_by h b) where
-  pub total-refused : {why : Refusal} → r ≡ D.Refused why → checked_by h b ≡ refusal why
-  total-refused e = sym said ∙ rw e
-
-  pub total-passed : r ≡ D.Accepted → checked_by h b ≡ accepted tt
-  total-passed e = sym said ∙ rw e

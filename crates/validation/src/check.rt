@@ -13,120 +13,89 @@ ghost use Rattle.image.specs.Steps.ImageReads.{Whole};
 ghost use Rattle.tails.specs.Steps.Openings.{header_of};
 ghost use Rattle.validation.specs.Steps.Passes.{fault_of, AllRead, FrontsSay, BacksSay, checked_of, counted_check};
 
-use crate::{Checked, Fault, Tally};
-use answers::{Outcome, Refusal};
+use answers::{Refusal, UnsoundBucket};
 use crumbmap::layout::FRONT_SLOTS;
 use crumbmap::map::home_of;
 use crumbmap::{Backyard, Front};
 use image::back::sound_back_at;
 use image::front::sound_front_at;
 use image::place::{back_bucket, bucket as bucket_of, table_of};
-use minifilter::Reading;
 use search::find::{count_back, count_front, largest_front};
 use search::list::{first_back, next_back};
-use tails::Opening;
 use tails::open::open_image;
 
 // Whether the bytes are a catalogue.
-pub fn check(image: &[u8]) -> Outcome
+pub fn check(image: &[u8]) -> Result<(), Refusal>
     ensures { outcome_of result ≡ check_of known image.now }
 {
-    match open_image(image) {
-        Opening::Refused(why) => Outcome::Refused(why),
-        Opening::At(opened) => {
-            let end = opened.end;
-            check_total(&image[..end], opened.size, opened.total)
-        }
-    }
+    let opened = open_image(image)?;
+    check_total(&image[..opened.end], opened.size, opened.total)
 }
 
 // A body of a size, and the total that its tail tells: 3, 8, then 12.
-pub fn check_total(image: &[u8], size: usize, total: u64) -> Outcome
+pub fn check_total(image: &[u8], size: usize, total: u64) -> Result<(), Refusal>
     requires { Whole size image.now }
     ensures { outcome_of result ≡ checked_by (header_of size total 0) image.now }
 {
-    match check_sized(image, size) {
-        Checked::Refused(why) => Outcome::Refused(why),
-        Checked::Members(members) => {
-            if total == members as u64 {
-                Outcome::Accepted
-            } else {
-                Outcome::Refused(Refusal::Miscounted)
-            }
-        }
+    let members = check_sized(image, size)?;
+    if total == members as u64 {
+        Ok(())
+    } else {
+        Err(Refusal::Miscounted)
     }
 }
 
-// A body of a size: any 3 comes before any 8.
-pub fn check_sized(image: &[u8], size: usize) -> Checked
+// How many members a body of a size has: any 3 comes before any 8.
+pub fn check_sized(image: &[u8], size: usize) -> Result<usize, Refusal>
     requires { Whole size image.now }
     ensures { checked_of result ≡ counted_check layout1 size image.now }
 {
-    match count_fronts(image, size) {
-        Tally::Unsound(table) => Checked::Refused(Refusal::Unsound(table)),
-        Tally::Members(front) => match count_backs(image, size) {
-            Tally::Unsound(table) => Checked::Refused(Refusal::Unsound(table)),
-            Tally::Members(back) => match first_early(image, size) {
-                Fault::At(table) => Checked::Refused(Refusal::Early(table)),
-                Fault::Nowhere => {
-                    let all = front + back;
-                    Checked::Members(all)
-                }
-            },
-        },
+    let front = count_fronts(image, size)?;
+    let back = count_backs(image, size)?;
+    match first_early(image, size) {
+        Some(table) => Err(Refusal::Early(table)),
+        None => Ok(front + back),
     }
 }
 
 // The members of the front buckets, or the first of them that is unsound. What is added up are the free slots, the leading zeros of a word.
-fn count_fronts(image: &[u8], size: usize) -> Tally
+fn count_fronts(image: &[u8], size: usize) -> Result<usize, UnsoundBucket>
     requires { Whole size image.now }
     ensures { FrontsSay layout1 size image.now result }
 {
     let end = 8 * size;
     let mut free = 0;
-    let mut f = 0;
-    while f < end {
-        let Reading::Members(n, _) = sound_front_at(image, Front(f)) else {
-            return Tally::Unsound(f);
-        };
-        free += FRONT_SLOTS - n;
-        f += 1;
+    for f in 0..end {
+        let reading = sound_front_at(image, Front(f))?;
+        free += FRONT_SLOTS - reading.members;
     }
-    Tally::Members(FRONT_SLOTS * end - free)
+    Ok(FRONT_SLOTS * end - free)
 }
 
 // The members of the backyard buckets, or the first of them that is unsound.
-fn count_backs(image: &[u8], size: usize) -> Tally
+fn count_backs(image: &[u8], size: usize) -> Result<usize, UnsoundBucket>
     requires { Whole size image.now }
     ensures { BacksSay layout1 size image.now result }
 {
-    let end = size + 7;
     let mut members = 0;
-    let mut j = 0;
-    while j < end {
-        let Reading::Members(n, _) = sound_back_at(image, size, Backyard(j)) else {
-            return Tally::Unsound(table_of(size, Backyard(j)));
-        };
-        members += n;
-        j += 1;
+    for j in 0..size + 7 {
+        let reading = sound_back_at(image, size, Backyard(j))?;
+        members += reading.members;
     }
-    Tally::Members(members)
+    Ok(members)
 }
 
-// The first backyard bucket with a member before its turn.
-fn first_early(image: &[u8], size: usize) -> Fault
+// The table number of the first backyard bucket with a member before its turn.
+fn first_early(image: &[u8], size: usize) -> Option<usize>
     requires { AllRead layout1 size image.now }
     ensures { result ≡ fault_of (early layout1 size (backyards size) 0 image.now) }
 {
-    let end = size + 7;
-    let mut j = 0;
-    while j < end {
+    for j in 0..size + 7 {
         if !bucket_in_turn(image, size, Backyard(j)) {
-            return Fault::At(table_of(size, Backyard(j)));
+            return Some(table_of(size, Backyard(j)));
         }
-        j += 1;
     }
-    Fault::Nowhere
+    None
 }
 
 // No member of a backyard bucket stands before its turn: they are looked at where they stand.

@@ -1,5 +1,5 @@
 -- The ones of a word's bytes, all at once: a stage of the count over all bytes (`byte-ones-stage`, `byte-ones-word`), and the ones below each byte
--- (`added-word`, `sums_word`). Three steps by these sums lead to the byte of a rank (`near_step`, `select-near`, `select-none`).
+-- (`added-word`, `sums_word`). Three steps by these sums lead to the byte of a rank (`near_step`, `select-found`, `select-none`).
 use mathlib.Core.Path.{◌≡◌, refl, sym, ap, ◌∙◌}
 use mathlib.Core.Logic.{⊎_elim}
 use Prim.Native.Nat.{ℕ, zero, suc, ◌+◌, ◌-◌, ◌*◌, ◌/◌, ◌%◌, ◌^◌, ◌≤◌, ◌<◌}
@@ -257,6 +257,11 @@ select-near w rank place n =
     select-byte-hit place x left (omega arith) n.whole
     (omega (arith, n.ahead l, n.passed, ones_split place 8 w, ones_low 8 x)))
     (eq-or-lt_of_le n.room)))
+
+-- its place in the word, by that in the byte
+pub select-found : (w rank place left at : ℕ) → Near w rank place 8 → left ≡ rank - ones_in place w → at ≡ select_in 8 (w / 2 ^ place % 256) left
+    → place + at ≡ select_in 64 w rank
+select-found w rank place left at n l e = rw (e, l) (sym (select-near w rank place n))
 
 pub select-none : (w rank place : ℕ) → Near w rank place 8 → 8 ≤ rank - ones_in place w → select_in 64 w rank ≡ 64
 unfolding select_in

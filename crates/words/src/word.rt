@@ -22,35 +22,14 @@ pub fn word_of(b: &[u8]) -> u64
     requires { word_bytes1 ≤ length b.now }
     ensures { result ≡ value 256 (take word_bytes1 b.now) }
 {
-    (b[0] as u64)
-        | ((b[1] as u64) << 8)
-        | ((b[2] as u64) << 16)
-        | ((b[3] as u64) << 24)
-        | ((b[4] as u64) << 32)
-        | ((b[5] as u64) << 40)
-        | ((b[6] as u64) << 48)
-        | ((b[7] as u64) << 56)
+    u64::from_le_bytes([b[0], b[1], b[2], b[3], b[4], b[5], b[6], b[7]])
 }
 
 pub fn put_word(b: &mut [u8], word: u64)
     requires { word_bytes1 ≤ length b.old }
     ensures { b.new ≡ digits 256 word_bytes1 word ++ drop word_bytes1 b.old }
 {
-    let w1 = word / 256;
-    let w2 = w1 / 256;
-    let w3 = w2 / 256;
-    let w4 = w3 / 256;
-    let w5 = w4 / 256;
-    let w6 = w5 / 256;
-    let w7 = w6 / 256;
-    b[0] = (word % 256) as u8;
-    b[1] = (w1 % 256) as u8;
-    b[2] = (w2 % 256) as u8;
-    b[3] = (w3 % 256) as u8;
-    b[4] = (w4 % 256) as u8;
-    b[5] = (w5 % 256) as u8;
-    b[6] = (w6 % 256) as u8;
-    b[7] = (w7 % 256) as u8;
+    b[..8].copy_from_slice(&word.to_le_bytes());
 }
 
 // "The members in a sound bucket are 28 minus the word's leading zeros."
@@ -58,17 +37,14 @@ pub fn occupancy(word: u64) -> usize
     requires { ones word ≡ layout1.minis }
     ensures { (result ≡ length (minis_in 64 layout1.minis word)) × (result ≤ layout1.front_slots) }
 {
-    (ZEROS - u64::leading_zeros(word)) as usize
+    (ZEROS - word.leading_zeros()) as usize
 }
 
 // The rank of the one that ends the mini-bucket before `mini`; that of mini-bucket 0 itself where there is none before it.
 pub fn rank_before(mini: u32) -> u32
     ensures { result ≡ mini - 1 }
 {
-    if mini == 0 {
-        return 0;
-    }
-    mini - 1
+    mini.saturating_sub(1)
 }
 
 // The place of mini-bucket `mini`'s first bit: behind the end of the one before it.
@@ -89,7 +65,7 @@ pub fn bounds(word: u64, mini: u32, end: u32) -> Bounds
 {
     let place = first_place(word, mini, end);
     let from = place - mini;
-    let past = from + u64::trailing_zeros(word >> place);
+    let past = from + (word >> place).trailing_zeros();
     Bounds {
         from: from as usize,
         past: past as usize,
@@ -101,7 +77,7 @@ pub fn rest(word: u64, mini: u32, slot: usize) -> usize
     requires { SlotOf1 word mini slot }
     ensures { slot + result ≡ below (suc mini) (minis_in 64 layout1.minis word) }
 {
-    u64::trailing_zeros(word >> (mini + (slot as u32))) as usize
+    (word >> (mini + (slot as u32))).trailing_zeros() as usize
 }
 
 // Whether a slot is one of mini-bucket `mini`'s: at its place stands a zero, behind as many ones as mini-buckets before it.
@@ -110,7 +86,7 @@ pub fn is_slot_of(word: u64, mini: u32, slot: usize) -> bool
     ensures { result ≡ (eqb (ones_in (mini + slot) word) mini && eqb (word / 2 ^ (mini + slot) % 2) 0) }
 {
     let unit: u64 = 1 << (mini + (slot as u32));
-    (u64::count_ones(word % unit) == mini) & (word / unit % 2 == 0)
+    ((word % unit).count_ones() == mini) & (word / unit % 2 == 0)
 }
 
 // The word with a zero put in at a place, and with the bit there taken out.

@@ -4,18 +4,18 @@ use Rattle.crumbmap.specs.Layouts.{known}
 use Rattle.form.specs.Calls.{delete_of}
 use Rattle.answers.specs.Pairs.{said_of, answer_value}
 use Rattle.answers.proofs.PairLaws.{said-changed}
-use Rattle.packing.proofs.ResultLaws.{within-packs}
+use Rattle.packing.proofs.ResultLaws.{packs}
 use Rattle.packing.proofs.FitLaws.{delete-fits}
-use Rattle.capi.proofs.bcf_delete.Goals.{After-changed}
+use Rattle.capi.proofs.bcf_delete.Goals.{After-from}
 use Rattle.capi.proofs.bcf_delete.Goals as goal
 
 -- the number and the value of the answer
-said : (c : After-changed) → c.changed.result ≡ said_of answer_value (delete_of known c.args.image.now c.args.hash)
+said : (c : After-from) → c.from.result ≡ said_of answer_value (delete_of known c.args.image.now c.args.hash)
 said c =
-    said-changed (delete_of known c.args.image.now c.args.hash) c.delete.result _ c.changed.ensures c.delete.ensures.answer
+    said-changed (delete_of known c.args.image.now c.args.hash) c.delete.result _ c.from.ensures c.delete.ensures.answer
 
 pub packed-requires : goal.packed-requires
-packed-requires c = rw (said c) (within-packs (delete-fits c.args.image.now c.args.hash c.ranges.hash.fits))
+packed-requires c = packs (delete-fits c.args.image.now c.args.hash c.ranges.hash.fits) (said c)
 
-pub returns : goal.returns
-returns c = record { value = c.packed.ensures ∙ rw (said (goal.at.returns c).After-changed); image_after = c.delete.ensures.bytes }
+pub returns-clause-value : goal.returns-clause-value
+returns-clause-value c = c.packed.ensures ∙ rw (said (goal.at.returns-clause-value c).After-from)

@@ -1,27 +1,13 @@
 -- `bcf_fresh` packs what a fresh gives.
-use mathlib.Core.Path.{◌≡◌, ◌∙◌}
-use Prim.Native.Nat.{ℕ}
-use mathlib.Core.List.{List}
-use Rattle.crumbmap.specs.Layouts.{known}
-use Rattle.machine.specs.Results.{Result}
-use Rattle.form.specs.Calls.{fresh_of}
-use Rattle.answers.specs.Pairs.{said_of}
-use Rattle.packing.specs.Packing.{nothing}
-use Rattle.packing.proofs.ResultLaws.{within-packs, said-done}
+use mathlib.Core.Path.{◌∙◌}
+use Rattle.packing.proofs.ResultLaws.{packs, said-done}
 use Rattle.packing.proofs.FitLaws.{fresh-fits}
-use Rattle.capi.proofs.bcf_fresh.Goals.{After-done}
 use Rattle.capi.proofs.bcf_fresh.Goals as goal
 
--- what is asked of the machine
-abbrev asked : After-done → Result (List ℕ)
-asked c = let a = c.args in fresh_of known 1 a.image.now
-
--- the number and the value of the answer
-said : (c : After-done) → c.done.result ≡ said_of nothing (asked c)
-said c = said-done (asked c) c.fresh.result _ c.done.ensures c.fresh.ensures.answer
-
 pub packed-requires : goal.packed-requires
-packed-requires c = let a = c.args in rw (said c) (within-packs (fresh-fits a.image.now))
+packed-requires c =
+    let a = c.args in
+    packs (fresh-fits a.image.now) (said-done c.fresh.ensures c.done.ensures)
 
-pub returns : goal.returns
-returns c = record { value = c.packed.ensures ∙ rw (said (goal.at.returns c).After-done); image_after = c.fresh.ensures.bytes }
+pub returns-clause-value : goal.returns-clause-value
+returns-clause-value c = c.packed.ensures ∙ rw (said-done c.fresh.ensures c.done.ensures)

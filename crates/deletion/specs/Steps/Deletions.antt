@@ -1,5 +1,6 @@
 -- What the steps of delete ask and say: its plan, a copy in front, and a member that leaves the backyard.
 use Rattle.std.specs.Prelude.{◌≡◌, ℕ, ◌+◌, ◌*◌, ◌<◌, Bool, true, false, cond, List, length, ltb}
+use Rattle.std.specs.Prelude as S
 use Rattle.std.proofs.Math.Option.{Option, none, some}
 use Rattle.multiset.specs.Multisets.{added, removed, below, copies, Found, found_in}
 use Rattle.crumbmap.specs.Layouts.{Layout, keys}
@@ -9,20 +10,15 @@ use Rattle.crumbmap.specs.declared.Overflow.{Overflow}
 use Rattle.buckets.specs.Buckets.{carrying}
 use Rattle.search.specs.Steps.Searches.{first_of}
 use Rattle.search.specs.declared.Carried.{Carried}
-use Rattle.search.specs.declared.Carried.TheVariants as K
 use Rattle.machine.specs.Images.{in_front, in_back, put_front, put_back}
 use Rattle.machine.specs.Bags.{from_first}
 use Rattle.machine.specs.Machine.{changed, bag_in, delete_at}
 use Rattle.answers.specs.Answers.{refusal, Changes}
-use Rattle.answers.specs.declared.ChangeResult.{ChangeResult}
-use Rattle.answers.specs.declared.ChangeResult.TheVariants as C
-use Rattle.answers.specs.declared.Refusal.TheVariants.{Miscounted}
+use Rattle.answers.specs.declared.Refusal.{Refusal}
 use Rattle.image.specs.declared.Target.{Target}
 use Rattle.image.specs.Steps.ImageReads.{At, Placed, FrontRead, BackRead, FrontFull, FrontSwapAt}
 use Rattle.tails.specs.Steps.Changing.{within}
 use Rattle.deletion.specs.declared.Departure.{Departure}
-use Rattle.deletion.specs.declared.Leaving.{Leaving}
-use Rattle.deletion.specs.declared.Leaving.TheVariants as W
 use Rattle.deletion.specs.declared.Refill.{Refill}
 use Rattle.deletion.specs.declared.DeletePlan.{DeletePlan}
 use Rattle.deletion.specs.declared.DeletePlan.TheVariants as P
@@ -30,36 +26,29 @@ use Rattle.deletion.specs.declared.DeletePlan.TheVariants as P
 -- ---- the member that leaves the backyard
 
 -- of two members, one of First(f) and one of Second(f), the smaller; of equal ones "from First if n0 > n1, else from Second"
-abbrev pub pick_of : Leaving → Leaving → ℕ → ℕ → Leaving
-pick_of W.Nothing s n0 n1 = s
-pick_of (W.Member a) W.Nothing n0 n1 = W.Member a
-pick_of (W.Member a) (W.Member b) n0 n1 =
-    cond (ltb a.key b.key) (W.Member a) (cond (ltb b.key a.key) (W.Member b) (cond (ltb n1 n0) (W.Member a) (W.Member b)))
+abbrev pub pick_of : S.Option Departure → S.Option Departure → ℕ → ℕ → S.Option Departure
+pick_of S.None s n0 n1 = s
+pick_of (S.Some a) S.None n0 n1 = S.Some a
+pick_of (S.Some a) (S.Some b) n0 n1 =
+    cond (ltb a.key b.key) (S.Some a) (cond (ltb b.key a.key) (S.Some b) (cond (ltb n1 n0) (S.Some a) (S.Some b)))
 
 -- the first key of a crumb, as a member that leaves
-abbrev pub departing : Overflow → Carried → Leaving
-departing w (K.Key v i) = W.Member (record { way = w; slot = i; key = v })
-departing w K.Nothing = W.Nothing
+abbrev pub departing : Overflow → S.Option Carried → S.Option Departure
+departing w (S.Some c) = S.Some (record { way = w; slot = c.slot; key = c.key })
+departing w S.None = S.None
 
 -- where a key was found, as a copy that leaves
-abbrev pub leaving : Overflow → ℕ → Option Found → Leaving
-leaving w x none = W.Nothing
-leaving w x (some s) = W.Member (record { way = w; slot = s.slot; key = x })
-
--- the refusal of a plan for which the total has no room
-abbrev pub roomless : DeletePlan → ChangeResult
-roomless (P.Refused why) = C.Refused why
-roomless (P.Leaves slot) = C.Refused Miscounted
-roomless (P.Refills r) = C.Refused Miscounted
-roomless (P.TakesOut d) = C.Refused Miscounted
+abbrev pub leaving : Overflow → ℕ → Option Found → S.Option Departure
+leaving w x none = S.None
+leaving w x (some s) = S.Some (record { way = w; slot = s.slot; key = x })
 
 module _ (L : Layout) where
   -- the smallest member of a backyard bucket that carries a crumb
-  abbrev pub least_in : ℕ → Overflow → List ℕ → Leaving
+  abbrev pub least_in : ℕ → Overflow → List ℕ → S.Option Departure
   least_in B w img = let ys : List ℕ = in_back L B w.bucket.0 img in departing w (first_of w.crumb ys (carrying w.crumb ys))
 
   -- a copy of key x with the crumb, the lowest in a backyard bucket
-  abbrev pub copy_in : ℕ → ℕ → Overflow → List ℕ → Leaving
+  abbrev pub copy_in : ℕ → ℕ → Overflow → List ℕ → S.Option Departure
   copy_in B x w img = leaving w x (found_in (x * 16 + w.crumb) (in_back L B w.bucket.0 img))
 
   -- a member stands in its backyard bucket, the lowest copy at its slot
@@ -90,7 +79,7 @@ module _ (L : Layout) where
   -- ---- the plan
 
   -- a delete at a target, as the machine has it, where the total has room or not
-  abbrev pub DeletesAt : Target → Bool → List ℕ → ChangeResult → List ℕ → Type 0
+  abbrev pub DeletesAt : Target → Bool → List ℕ → S.Result ℕ Refusal → List ℕ → Type 0
   DeletesAt t room old r new = Changes (within room (delete_at L t.size t.front.0 t.key old)) old r new
 
   -- a front bucket of n members, none of them the key
@@ -131,8 +120,8 @@ module _ (L : Layout) where
     pub delete : delete_at L t.size t.front.0 t.key img ≡ changed (1 + d.way.bucket.0) (without t.size d img)
 
   -- what a plan says
-  abbrev pub Plans : Target → List ℕ → DeletePlan → Type 0
-  Plans t img (P.Refused why) = delete_at L t.size t.front.0 t.key img ≡ refusal why
-  Plans t img (P.Leaves slot) = LeavesFront t slot img
-  Plans t img (P.Refills r) = Refills t r img
-  Plans t img (P.TakesOut d) = TakesOut t d img
+  abbrev pub Plans : Target → List ℕ → S.Result DeletePlan Refusal → Type 0
+  Plans t img (S.Err why) = delete_at L t.size t.front.0 t.key img ≡ refusal why
+  Plans t img (S.Ok (P.Leaves slot)) = LeavesFront t slot img
+  Plans t img (S.Ok (P.Refills r)) = Refills t r img
+  Plans t img (S.Ok (P.TakesOut d)) = TakesOut t d img

@@ -1,6 +1,7 @@
 -- One entry of a row: what of its group's buckets has been read, and what the entry makes of the state and of itself. An image here is a body,
 -- but in `begun`.
 use Rattle.std.specs.Prelude.{◌≡◌, ℕ, suc, ◌+◌, ◌-◌, ◌*◌, ◌%◌, ◌^◌, ◌<◌, ◌≤◌, max, cond, List, length, ◌==◌, nat_le, nat_lt, slice_index}
+use Rattle.std.specs.Prelude as S
 use Rattle.std.proofs.Math.Option.{Option, none, some}
 use Rattle.multiset.specs.Multisets.{found_in, largest}
 use Rattle.crumbmap.specs.Layouts.{Layout, Numbering, keys, fronts}
@@ -13,20 +14,19 @@ use Rattle.machine.specs.Calls.{ask_of}
 use Rattle.form.specs.Tails.{body, opened}
 use Rattle.answers.specs.Rows.{received_of}
 use Rattle.answers.specs.declared.Entry.{Entry}
+use Rattle.answers.specs.declared.UnsoundBucket.{UnsoundBucket}
 use Rattle.image.specs.Steps.ImageReads.{Whole, FrontIn, FrontRead, BackRead, Exceeds}
 use Rattle.grouping.specs.declared.State.{State}
 use Rattle.grouping.specs.declared.Turned.{Turned}
-use Rattle.grouping.specs.declared.Shared.{Shared}
-use Rattle.grouping.specs.declared.Shared.TheVariants as S
 
--- what reading on gave
-abbrev pub shared_of : Shared → Result ℕ
-shared_of (S.Read n) = accepted n
-shared_of (S.Unsound i) = refused 3 i
+-- what reading on for a key gave: how many of its group's buckets are read then, or the refusal for one that is unsound
+abbrev pub shared_of : S.Result ℕ UnsoundBucket → Result ℕ
+shared_of (S.Ok n) = accepted n
+shared_of (S.Err i) = refused 3 i.0
 
 -- an entry with its reads, place, slot and copies, and one by its lone ask
 abbrev pub filled : Entry → ℕ → ℕ → ℕ → ℕ → Entry
-filled e reads place slot copies = record { hash = e.hash; reads = reads; place = place; slot = slot; copies = copies }
+filled e reads place slot copies = record e { reads = reads; place = place; slot = slot; copies = copies }
 
 abbrev pub told_by : Entry → Result Asked → Entry
 told_by e (accepted a) = received_of e a
@@ -42,16 +42,7 @@ held s f = cond (nat_lt s.front f) 0 s.reads
 
 -- the state after an entry that is fetched: a byte of its front bucket is loaded, to no end but that
 abbrev pub fetched : List ℕ → State → ℕ → State
-fetched img s k = record {
-  phase = s.phase;
-  number = s.number;
-  reads = s.reads;
-  bound = s.bound;
-  size = s.size;
-  table = s.table;
-  front = s.front;
-  total = (s.total + slice_index (bucket_at (front_of s.size k) img) 0) % 2 ^ 64;
-}
+fetched img s k = record s { total = (s.total + slice_index (bucket_at (front_of s.size k) img) 0) % 2 ^ 64 }
 
 module _ (L : Layout) where
   -- "Front(f) holds 28 and g exceeds its largest" is false of keys below this one: f's front bucket alone settles them
@@ -82,51 +73,16 @@ module _ (L : Layout) where
 
   -- "refused with 10 .. when an entry's front bucket is below the one before it"; after any refusal order alone is tested
   abbrev pub descended : State → ℕ → State
-  descended s f = record {
-    phase = s.phase;
-    number = 10;
-    reads = s.reads;
-    bound = s.bound;
-    size = s.size;
-    table = 0;
-    front = f;
-    total = s.total;
-  }
+  descended s f = record s { number = 10; table = 0; front = f }
 
   abbrev pub passed : State → ℕ → State
-  passed s f = record {
-    phase = s.phase;
-    number = s.number;
-    reads = s.reads;
-    bound = s.bound;
-    size = s.size;
-    table = s.table;
-    front = f;
-    total = s.total;
-  }
+  passed s f = record s { front = f }
 
   -- by what reading on for it comes to
   abbrev pub advanced : List ℕ → State → ℕ → Result ℕ → State
-  advanced img s f (accepted r) = record {
-    phase = s.phase;
-    number = 0;
-    reads = r;
-    bound = bound_at f img r;
-    size = s.size;
-    table = 0;
-    front = f;
-    total = s.total + (r - held s f);
-  }
-  advanced img s f (refused n i) = record {
-    phase = s.phase;
-    number = n;
-    reads = s.reads;
-    bound = s.bound;
-    size = s.size;
-    table = i;
-    front = f;
-    total = s.total;
-  }
+  advanced img s f (accepted r) =
+      record s { number = 0; reads = r; bound = bound_at f img r; table = 0; front = f; total = s.total + (r - held s f) }
+  advanced img s f (refused n i) = record s { number = n; table = i; front = f }
 
   unfoldable pub tested_at : List ℕ → State → ℕ → ℕ → State
   tested_at img s f x =
@@ -191,16 +147,7 @@ begun layouts img = started_at 0 (size_of (length (body img))) (number (opened l
 
 -- after the test the entries receive their answers, or the row is refused
 abbrev pub settled : State → State
-settled s = record {
-  phase = cond (s.number == 0) 2 3;
-  number = s.number;
-  reads = s.reads;
-  bound = s.bound;
-  size = s.size;
-  table = s.table;
-  front = s.front;
-  total = s.total;
-}
+settled s = record s { phase = cond (s.number == 0) 2 3 }
 
 -- between two sweeps
 abbrev pub resumed : State → State

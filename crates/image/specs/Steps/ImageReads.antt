@@ -1,5 +1,6 @@
 -- What the steps of the calls ask and say of an image: its size, and a bucket that was read and found sound.
 use Rattle.std.specs.Prelude.{◌≡◌, ℕ, ◌+◌, ◌*◌, ◌≤◌, ◌<◌, Bool, true, false, cond, List, length, get_or, eqb}
+use Rattle.std.specs.Prelude as S
 use Rattle.std.proofs.Math.Option.{Option, none, some}
 use Rattle.multiset.specs.Multisets.{below, removed, largest}
 use Rattle.crumbmap.specs.Layouts.{Layout, keys, fronts, backyards}
@@ -10,23 +11,19 @@ use Rattle.crumbmap.specs.declared.Overflow.{Overflow}
 use Rattle.buckets.specs.Buckets.{front_bytes, FrontList, BackList}
 use Rattle.minifilter.specs.Steps.Readings.{SoundFront, SoundBack}
 use Rattle.minifilter.specs.declared.Reading.{Reading}
-use Rattle.minifilter.specs.declared.Reading.TheVariants as R
+use Rattle.answers.specs.declared.UnsoundBucket.{UnsoundBucket}
 use Rattle.machine.specs.Results.{accepted, refused}
 use Rattle.machine.specs.Images.{length_of, bucket_at, front_at, back_at, in_front, in_back}
 use Rattle.machine.specs.Machine.{backyard}
-use Rattle.image.specs.declared.Size.{Size}
-use Rattle.image.specs.declared.Size.TheVariants.{Buckets, Wrong}
 use Rattle.image.specs.declared.Target.{Target}
 use Rattle.image.specs.declared.BackReading.{BackReading}
-use Rattle.image.specs.declared.BackyardReading.{BackyardReading}
-use Rattle.image.specs.declared.BackyardReading.TheVariants as Y
 
 -- ---- where things stand, whatever the layout
 
 -- a size, or none
-abbrev pub sizing : Option ℕ → Size
-sizing none = Wrong
-sizing (some B) = Buckets B
+abbrev pub sizing : Option ℕ → S.Option ℕ
+sizing none = S.None
+sizing (some B) = S.Some B
 
 -- the bytes of an image of size B
 pub record Whole (B : ℕ) (img : List ℕ) : Type 0 where
@@ -82,13 +79,13 @@ module _ (L : Layout) where
     pub list : BackList L B j (in_back L B j img)
 
   -- what reading a bucket says: how many members, and how many of them are below x, or the refusal with its table number
-  abbrev pub FrontSays : ℕ → ℕ → List ℕ → Reading → Type 0
-  FrontSays f x img (R.Members n s) = FrontRead f img × (length (in_front L f img) ≡ n) × (s ≡ below x (in_front L f img))
-  FrontSays f x img R.Unsound = front_at L f img ≡ refused 3 f
+  abbrev pub FrontSays : ℕ → ℕ → List ℕ → S.Result Reading UnsoundBucket → Type 0
+  FrontSays f x img (S.Ok r) = FrontRead f img × (length (in_front L f img) ≡ r.members) × (r.below ≡ below x (in_front L f img))
+  FrontSays f x img (S.Err i) = front_at L f img ≡ refused 3 i.0
 
-  abbrev pub BackSays : ℕ → ℕ → ℕ → List ℕ → Reading → Type 0
-  BackSays B j y img (R.Members n s) = BackRead B j img × (length (in_back L B j img) ≡ n) × (s ≡ below y (in_back L B j img))
-  BackSays B j y img R.Unsound = back_at L B j img ≡ refused 3 (fronts B + j)
+  abbrev pub BackSays : ℕ → ℕ → ℕ → List ℕ → S.Result Reading UnsoundBucket → Type 0
+  BackSays B j y img (S.Ok r) = BackRead B j img × (length (in_back L B j img) ≡ r.members) × (r.below ≡ below y (in_back L B j img))
+  BackSays B j y img (S.Err i) = back_at L B j img ≡ refused 3 i.0
 
   -- both backyard buckets of f were read and are sound
   pub record BothRead (B f : ℕ) (img : List ℕ) : Type 0 where
@@ -115,10 +112,18 @@ module _ (L : Layout) where
     pub key : x < keys L
     pub rank : r.below ≡ below (x * 16 + r.way.crumb) (in_back L B r.way.bucket.0 img)
 
+  -- what reading the backyard bucket at w says for key x: where it is, how many members it holds, and how many of them are below x with the crumb
+  -- of w; or the refusal with its table number
+  abbrev pub WaySays : ℕ → Overflow → ℕ → List ℕ → S.Result BackReading UnsoundBucket → Type 0
+  WaySays B w x img (S.Ok r) =
+      (r.way ≡ w) × BackRead B w.bucket.0 img × (length (in_back L B w.bucket.0 img) ≡ r.members)
+      × (r.below ≡ below (x * 16 + w.crumb) (in_back L B w.bucket.0 img))
+  WaySays B w x img (S.Err i) = back_at L B w.bucket.0 img ≡ refused 3 i.0
+
   -- what reading both says
-  abbrev pub BackyardSays : ℕ → ℕ → ℕ → List ℕ → BackyardReading → Type 0
-  BackyardSays B f x img (Y.Sound a b) = Reads true B f x img a × Reads false B f x img b
-  BackyardSays B f x img (Y.Unsound i) = backyard L B f img ≡ refused 3 i
+  abbrev pub BackyardSays : ℕ → ℕ → ℕ → List ℕ → S.Result (BackReading × BackReading) UnsoundBucket → Type 0
+  BackyardSays B f x img (S.Ok r) = Reads true B f x img r.0 × Reads false B f x img r.1
+  BackyardSays B f x img (S.Err i) = backyard L B f img ≡ refused 3 i.0
 
   -- a key can join front bucket f, which was read, at the slot behind the members below it; and a member backyard bucket j
   pub record FrontJoin (f slot x : ℕ) (img : List ℕ) : Type 0 where

@@ -1,5 +1,6 @@
 -- What the steps of insert ask and say: its plan, and the overflow of a full front bucket with the backyard bucket that takes it.
 use Rattle.std.specs.Prelude.{◌≡◌, ℕ, ◌+◌, ◌*◌, Bool, true, false, List}
+use Rattle.std.specs.Prelude as S
 use Rattle.std.proofs.Math.Option.{Option, none, some}
 use Rattle.multiset.specs.Multisets.{added, removed, below, largest}
 use Rattle.crumbmap.specs.Layouts.{Layout}
@@ -7,9 +8,7 @@ use Rattle.crumbmap.specs.declared.Overflow.{Overflow}
 use Rattle.machine.specs.Images.{in_front, in_back, put_front, put_back}
 use Rattle.machine.specs.Machine.{changed, insert_at}
 use Rattle.answers.specs.Answers.{refusal, Changes}
-use Rattle.answers.specs.declared.ChangeResult.{ChangeResult}
-use Rattle.answers.specs.declared.ChangeResult.TheVariants as C
-use Rattle.answers.specs.declared.Refusal.TheVariants.{Miscounted}
+use Rattle.answers.specs.declared.Refusal.{Refusal}
 use Rattle.image.specs.declared.Target.{Target}
 use Rattle.image.specs.declared.BackReading.{BackReading}
 use Rattle.image.specs.Steps.ImageReads.{Placed, FrontFull, FrontJoin, BackJoin}
@@ -30,15 +29,9 @@ taking_of (some false) = T.Second
 abbrev pub spilling_to : ℕ → ℕ → BackReading → InsertPlan
 spilling_to over slot r = P.Spills (record { over = over; slot = slot; way = r.way; to = r.below })
 
--- the refusal of a plan for which the total has no room
-abbrev pub roomless : InsertPlan → ChangeResult
-roomless (P.Refused why) = C.Refused why
-roomless (P.Joins slot) = C.Refused Miscounted
-roomless (P.Spills s) = C.Refused Miscounted
-
 module _ (L : Layout) where
   -- an insert at a target, as the machine has it, where the total has room or not
-  abbrev pub InsertsAt : Target → Bool → List ℕ → ChangeResult → List ℕ → Type 0
+  abbrev pub InsertsAt : Target → Bool → List ℕ → S.Result ℕ Refusal → List ℕ → Type 0
   InsertsAt t room old r new = Changes (within room (insert_at L t.size t.front.0 t.key old)) old r new
 
   -- the target's front bucket is full, and so many of its members are below the key
@@ -66,7 +59,7 @@ module _ (L : Layout) where
     pub insert : insert_at L t.size t.front.0 t.key img ≡ changed (1 + s.way.bucket.0) (spilled t s.way img)
 
   -- what a plan says
-  abbrev pub Plans : Target → List ℕ → InsertPlan → Type 0
-  Plans t img (P.Refused why) = insert_at L t.size t.front.0 t.key img ≡ refusal why
-  Plans t img (P.Joins slot) = FrontJoin L t.front.0 slot t.key img
-  Plans t img (P.Spills s) = Spills t s img
+  abbrev pub Plans : Target → List ℕ → S.Result InsertPlan Refusal → Type 0
+  Plans t img (S.Err why) = insert_at L t.size t.front.0 t.key img ≡ refusal why
+  Plans t img (S.Ok (P.Joins slot)) = FrontJoin L t.front.0 slot t.key img
+  Plans t img (S.Ok (P.Spills s)) = Spills t s img

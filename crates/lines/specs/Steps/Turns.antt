@@ -1,5 +1,6 @@
 -- An input that comes in pieces: what a step takes in and prints, and a whole run of steps.
 use Rattle.std.specs.Prelude.{◌≡◌, ℕ, ◌+◌, ◌≤◌, ◌<◌, List, [], ◌∷◌, ◌++◌, length, take, drop, get_or}
+use Rattle.std.specs.Prelude as S
 use Rattle.frame.specs.Frames.{frame_of, text_of, image_after}
 use Rattle.frame.specs.declared.Frame.{Frame}
 use Rattle.lines.specs.Inputs.{frames_after, text_of_frames, image_of_frames, start_image}
@@ -11,12 +12,12 @@ unfoldable pub kept : List ℕ → ℕ → List ℕ
 kept held b = take 19 (held ++ (b ∷ []))
 
 -- `bytes` after the held start of a line are these frames and a held start of the next line, whatever follows
-abbrev pub Reads : List ℕ → List ℕ → List Frame → List ℕ → Type 0
+abbrev pub Reads : List ℕ → List ℕ → List (S.Option Frame) → List ℕ → Type 0
 Reads held bytes frames held' = (rest : List ℕ) → frames_after held (bytes ++ rest) ≡ frames ++ frames_after held' rest
 
 -- `bytes` are taken in after those held: their frames are performed, and `text` is printed
 pub record Turn (img held bytes text img' held' : List ℕ) : Type 0 where
-  pub frames : List Frame
+  pub frames : List (S.Option Frame)
   pub reads : Reads held bytes frames held'
   pub printed : text ≡ text_of_frames frames img
   pub performed : img' ≡ image_of_frames frames img

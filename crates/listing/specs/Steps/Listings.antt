@@ -1,5 +1,6 @@
 -- What listing the members of a front bucket asks and says: those in front with those behind it, and lists that are merged.
 use Rattle.std.specs.Prelude.{◌≡◌, ℕ, ◌+◌, ◌-◌, ◌≤◌, cond, List, [], ◌++◌, length, take, drop, T, ltb}
+use Rattle.std.specs.Prelude as S
 use Rattle.multiset.specs.Multisets.{ascending}
 use Rattle.crumbmap.specs.Layouts.{Layout}
 use Rattle.crumbmap.specs.declared.Overflow.{Overflow}
@@ -9,8 +10,7 @@ use Rattle.machine.specs.Images.{in_front, in_back}
 use Rattle.machine.specs.Bags.{added_all}
 use Rattle.machine.specs.Machine.{overflow_in, members_at}
 use Rattle.image.specs.Steps.ImageReads.{FrontIn, FrontRead, BothRead}
-use Rattle.listing.specs.declared.MemberCount.{MemberCount}
-use Rattle.listing.specs.declared.MemberCount.TheVariants as M
+use Rattle.answers.specs.declared.UnsoundBucket.{UnsoundBucket}
 
 module _ (L : Layout) where
   -- those of First(f) and Second(f) that count, "where Front holds 28"; and all members of f
@@ -36,9 +36,9 @@ module _ (L : Layout) where
     pub behind : length (in_front L f img) ≡ L.front_slots → BothRead L B f img
 
   -- what reading them says: how many members, or the refusal
-  abbrev pub CountSays : ℕ → ℕ → List ℕ → MemberCount → Type 0
-  CountSays B f img (M.Members n) = MembersRead B f img × (length (members_in B f img) ≡ n)
-  CountSays B f img (M.Unsound i) = members_at L B f img ≡ refused 3 i
+  abbrev pub CountSays : ℕ → ℕ → List ℕ → S.Result ℕ UnsoundBucket → Type 0
+  CountSays B f img (S.Ok n) = MembersRead B f img × (length (members_in B f img) ≡ n)
+  CountSays B f img (S.Err i) = members_at L B f img ≡ refused 3 i.0
 
 -- two ascending lists that fit `room` places together; merged into the start of `old`, which is `new` after it
 abbrev pub Mergeable : List ℕ → List ℕ → ℕ → Type 0

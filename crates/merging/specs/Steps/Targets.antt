@@ -1,5 +1,6 @@
 -- What the steps of a merge ask of a source's body, and what they leave in the target.
 use Rattle.std.specs.Prelude.{ℕ, ◌≤◌, List, ◌++◌}
+use Rattle.std.specs.Prelude as S
 use Rattle.crumbmap.specs.Layouts.{Layout, fronts}
 use Rattle.machine.specs.Results.{Result, accepted, and_then}
 use Rattle.machine.specs.Images.{empty_image}
@@ -7,7 +8,7 @@ use Rattle.machine.specs.Merges.{merge_from}
 use Rattle.machine.specs.Calls.{left_of}
 use Rattle.form.specs.Tails.{tail_bytes, started, slots}
 use Rattle.answers.specs.Answers.{Leaves}
-use Rattle.answers.specs.declared.Outcome.{Outcome}
+use Rattle.answers.specs.declared.Refusal.{Refusal}
 use Rattle.image.specs.Steps.ImageReads.{Whole}
 
 module _ (L : Layout) where
@@ -30,5 +31,5 @@ module _ (L : Layout) where
     both_merged B total a b = and_then (merge_from L B (fronts B) 0 a b (empty_image L B)) λ c. accepted (anew total c)
 
     -- a merge into a target of size B
-    abbrev pub MergesInto : ℕ → Result (List ℕ) → List ℕ → Outcome → List ℕ → Type 0
+    abbrev pub MergesInto : ℕ → Result (List ℕ) → List ℕ → S.Result (Unit {0}) Refusal → List ℕ → Type 0
     MergesInto B m old r new = Leaves m (left_of (fresh_form B) m old) r new

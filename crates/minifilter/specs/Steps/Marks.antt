@@ -1,5 +1,5 @@
 -- Marks: one number that says of each slot whether something holds there, and the slots whose tag is above the next one's, or below it.
-use Rattle.std.specs.Prelude.{◌≡◌, ℕ, zero, suc, ◌+◌, ◌*◌, ◌/◌, ◌%◌, ◌^◌, ◌≤◌, ◌<◌, true, false, cond, List, eqb, ltb}
+use Rattle.std.specs.Prelude.{◌≡◌, ℕ, zero, suc, ◌+◌, ◌*◌, ◌/◌, ◌%◌, ◌^◌, ◌≤◌, ◌<◌, Bool, true, false, cond, List, eqb, ltb}
 use Rattle.crumbmap.specs.Layouts.{Layout}
 use Rattle.minifilter.specs.Steps.Slots.{tag_at}
 
@@ -7,6 +7,10 @@ use Rattle.minifilter.specs.Steps.Slots.{tag_at}
 unfoldable pub marks_of : (ℕ → ℕ) → ℕ → ℕ → ℕ → ℕ
 marks_of f t i zero = 0
 marks_of f t i (suc n) = cond (eqb (f i) t) 1 0 + 2 * marks_of f t (suc i) n
+
+-- R says of each of the first n numbers whether f takes t there
+abbrev pub Tells : (ℕ → Bool → Type 0) → (ℕ → ℕ) → ℕ → ℕ → Type 0
+Tells R f t n = (i : ℕ) (r : Bool) → i < n → R i r → r ≡ eqb (f i) t
 
 -- 1 at a slot of a front bucket whose tag is above that of the next
 unfoldable pub fall_at : Layout → List ℕ → ℕ → ℕ

@@ -1,16 +1,16 @@
 -- A bucket as the code's contracts speak of it: what the reader says, and a bucket that it found sound.
 use Rattle.std.specs.Prelude.{◌≡◌, ℕ, ◌*◌, ◌≤◌, ◌<◌, Bool, true, false, List, length}
+use Rattle.std.specs.Prelude as S
 use Rattle.std.proofs.Math.Option.{Option, none, some}
 use Rattle.multiset.specs.Multisets.{below}
 use Rattle.crumbmap.specs.Layouts.{Layout, keys, backyards}
 use Rattle.buckets.specs.Buckets.{front_members, back_members, front_list, back_list}
 use Rattle.minifilter.specs.declared.Reading.{Reading}
-use Rattle.minifilter.specs.declared.Reading.TheVariants.{Members, Unsound}
 
 -- "its member count, or unsound", and how many members are below x
-abbrev pub reading_of : ℕ → Option (List ℕ) → Reading
-reading_of x none = Unsound
-reading_of x (some xs) = Members (length xs) (below x xs)
+abbrev pub reading_of : ℕ → Option (List ℕ) → S.Option Reading
+reading_of x none = S.None
+reading_of x (some xs) = S.Some (record { members = length xs; below = below x xs })
 
 module _ (L : Layout) where
   -- 64 bytes that the reader found sound

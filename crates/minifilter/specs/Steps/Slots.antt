@@ -2,6 +2,7 @@
 -- past its members read as one more mini-bucket, so "members ascend" and "unused bytes and halves are 0" are one statement: the slots ascend,
 -- and none is above that mini-bucket, tag 0, crumb 0.
 use Rattle.std.specs.Prelude.{◌≡◌, ℕ, ◌+◌, ◌*◌, ◌-◌, ◌/◌, ◌%◌, ◌^◌, ◌≤◌, Bool, true, false, ◌&&◌, List, [], ◌∷◌, ◌++◌, length, take, drop, get_or, replicate, eqb}
+use Rattle.std.specs.Prelude as S
 use Rattle.std.proofs.Math.Option.{Option, some, bind}
 use Rattle.std.specs.Int.Count.{ones}
 use Rattle.multiset.specs.Multisets.{ascending, all_zero, below}
@@ -10,8 +11,6 @@ use Rattle.crumbmap.specs.Layouts.{Layout, tags, keys, word_bytes}
 use Rattle.borders.specs.Steps.Borders.{borders_in}
 use Rattle.buckets.specs.Words.{minis_in}
 use Rattle.buckets.specs.Buckets.{given, slot_keys, word_in, tags_in, crumbs_in}
-use Rattle.minifilter.specs.declared.Order.{Order}
-use Rattle.minifilter.specs.declared.Order.TheVariants as O
 
 -- ---- a bucket of either kind
 
@@ -124,9 +123,9 @@ low_at L false b slot = tag_at L false b slot
 -- ---- what the reader says of them
 
 -- what the pass over the slots says: how many are below x, where they are in order
-abbrev pub order_of : Bool → ℕ → List ℕ → Order
-order_of true x ks = O.Below (below x ks)
-order_of false x ks = O.Broken
+abbrev pub order_of : Bool → ℕ → List ℕ → S.Option ℕ
+order_of true x ks = S.Some (below x ks)
+order_of false x ks = S.None
 
 -- every crumb has its bit in `marks`
 unfoldable pub marked : ℕ → List ℕ → Bool

@@ -1,21 +1,19 @@
 -- What the steps of the moves say: the size that a source and a target share, and each move once there is one.
 use Rattle.std.specs.Prelude.{ℕ, cond, List, ◌++◌, eqb}
+use Rattle.std.specs.Prelude as S
 use Rattle.crumbmap.specs.Layouts.{layout1, known}
 use Rattle.machine.specs.Results.{Result, accepted, refused, and_then}
 use Rattle.machine.specs.Checks.{check_sized}
 use Rattle.form.specs.Tails.{Header, body, tail_bytes, started, members, headed}
 use Rattle.form.specs.Calls.{checked_by}
+use Rattle.answers.specs.declared.Refusal.{Refusal}
 use Rattle.answers.specs.declared.Refusal.TheVariants.{WrongLength, LengthsDiffer}
-use Rattle.image.specs.declared.Size.{Size}
-use Rattle.image.specs.declared.Size.TheVariants as Z
-use Rattle.moving.specs.declared.Shared.{Shared}
-use Rattle.moving.specs.declared.Shared.TheVariants as S
 
 -- the size of both, 1 for either, then 2
-abbrev pub shared_of : Size → Size → Shared
-shared_of Z.Wrong to = S.Refused WrongLength
-shared_of (Z.Buckets B) Z.Wrong = S.Refused WrongLength
-shared_of (Z.Buckets B) (Z.Buckets C) = cond (eqb B C) (S.Buckets B) (S.Refused LengthsDiffer)
+abbrev pub shared_of : S.Option ℕ → S.Option ℕ → S.Result ℕ Refusal
+shared_of S.None to = S.Err WrongLength
+shared_of (S.Some B) S.None = S.Err WrongLength
+shared_of (S.Some B) (S.Some C) = cond (eqb B C) (S.Ok B) (S.Err LengthsDiffer)
 
 -- a move of an image of size B to the form with a tail
 abbrev pub attach_at : ℕ → List ℕ → Result (List ℕ)

@@ -1,13 +1,13 @@
 -- What a page's run of whole buckets asks and says, at any layout: its entries, how far it goes, and what measuring it says.
 use Rattle.std.specs.Prelude.{◌≡◌, ℕ, zero, suc, ◌-◌, ◌≤◌, ◌<◌, List, [], ◌++◌, map, length}
+use Rattle.std.specs.Prelude as S
 use Rattle.crumbmap.specs.Layouts.{Layout}
 use Rattle.crumbmap.specs.Fingerprints.{fingerprint}
 use Rattle.machine.specs.Results.{accepted, refused}
 use Rattle.machine.specs.Pages.{run_from}
 use Rattle.image.specs.Steps.ImageReads.{Whole}
 use Rattle.listing.specs.Steps.Listings.{members_in, MembersRead}
-use Rattle.paging.specs.declared.RunEnd.{RunEnd}
-use Rattle.paging.specs.declared.RunEnd.TheVariants as E
+use Rattle.answers.specs.declared.UnsoundBucket.{UnsoundBucket}
 
 module _ (L : Layout) where
   -- the entries of n buckets from s
@@ -25,6 +25,6 @@ module _ (L : Layout) where
     pub runs : run_from L B (end - s) s room img ≡ accepted (record { entries = entries_in B (next - s) s img; next = next })
 
   -- what measuring it says
-  abbrev pub EndSays : ℕ → ℕ → ℕ → ℕ → List ℕ → RunEnd → Type 0
-  EndSays B s end room img (E.Next next) = Ran B s end room img next
-  EndSays B s end room img (E.Unsound i) = run_from L B (end - s) s room img ≡ refused 3 i
+  abbrev pub EndSays : ℕ → ℕ → ℕ → ℕ → List ℕ → S.Result ℕ UnsoundBucket → Type 0
+  EndSays B s end room img (S.Ok next) = Ran B s end room img next
+  EndSays B s end room img (S.Err i) = run_from L B (end - s) s room img ≡ refused 3 i.0

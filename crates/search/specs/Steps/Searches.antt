@@ -1,8 +1,10 @@
 -- What search finds in a sound bucket, at any layout, and the members that are asked for. `crumbs` is true of a backyard bucket.
-use Rattle.std.specs.Prelude.{◌≡◌, ℕ, zero, suc, ◌+◌, ◌*◌, ◌-◌, ◌^◌, ◌<◌, ◌≤◌, Bool, true, false, cond, List, [], ◌∷◌, length, take, eqb}
+use Rattle.std.specs.Prelude.{◌≡◌, ℕ, zero, suc, ◌+◌, ◌*◌, ◌-◌, ◌/◌, ◌%◌, ◌^◌, ◌<◌, ◌≤◌, Bool, true, false, cond, List, [], ◌∷◌, length, take, eqb}
+use Rattle.std.specs.Prelude as S
 use Rattle.std.proofs.Math.Option.{Option, none, some}
 use Rattle.std.specs.Int.Bits.{bit_and}
-use Rattle.multiset.specs.Multisets.{below, copies, Found}
+use Rattle.multiset.specs.Multisets as M
+use Rattle.multiset.specs.Multisets.{below, copies}
 use Rattle.multiset.specs.Digits.{value}
 use Rattle.crumbmap.specs.Layouts.{Layout, layout1, tags}
 use Rattle.buckets.specs.Buckets.{carrying, back_list}
@@ -12,10 +14,8 @@ use Rattle.minifilter.specs.Steps.Readings.{Sound, members_of}
 use Rattle.minifilter.specs.Steps.Slots.{span_of, low_at, crumb_at, tag_at}
 use Rattle.minifilter.specs.Steps.Marks.{marks_of}
 use Rattle.search.specs.declared.Carried.{Carried}
-use Rattle.search.specs.declared.Carried.TheVariants.{Key, Nothing}
 use Rattle.search.specs.declared.Cursor.{Cursor}
-use Rattle.search.specs.declared.Search.{Search}
-use Rattle.search.specs.declared.Search.TheVariants.{At, Absent}
+use Rattle.search.specs.declared.Found.{Found}
 
 -- ---- where a member stands
 
@@ -55,17 +55,23 @@ pub record Marked (L : Layout) (b : List ℕ) (slot m t marks : ℕ) : Type 0 wh
   pub standing : Standing L b slot m t
   pub marks-are : marks ≡ marks_of (tag_at L false b) t slot (L.front_slots - slot)
 
--- what a search gives, and the copies that it found
-abbrev pub search_of : Option Found → Search
-search_of none = Absent
-search_of (some s) = At s.slot s.copies
+-- `slot` is the lowest of key x in a front bucket, and `marks` without those up to the slot's own are of the slots from there on that hold its tag
+pub record Lowest (L : Layout) (b : List ℕ) (x marks slot : ℕ) : Type 0 where
+  pub rank : slot ≡ below x (members_of L false b)
+  pub there : 0 < copies x (members_of L false b)
+  pub rest : marks / 2 ^ (slot + 1) ≡ marks_of (tag_at L false b) (x % tags L) slot (L.front_slots - slot)
 
-abbrev pub many_in : Search → ℕ
-many_in Absent = 0
-many_in (At i n) = n
+-- what a search gives, and the copies that it found
+abbrev pub search_of : Option M.Found → S.Option Found
+search_of none = S.None
+search_of (some s) = S.Some (record { slot = s.slot; copies = s.copies })
+
+abbrev pub many_in : S.Option Found → ℕ
+many_in S.None = 0
+many_in (S.Some s) = s.copies
 
 -- the slot that was found, n where none was
-abbrev pub slot_else : ℕ → Option Found → ℕ
+abbrev pub slot_else : ℕ → Option M.Found → ℕ
 slot_else n none = n
 slot_else n (some s) = s.slot
 
@@ -86,9 +92,9 @@ chosen false crumb xs = xs
 chosen true crumb ys = carrying crumb ys
 
 -- the head of the keys that carry crumb c among members ys, and how many members are below it
-abbrev pub first_of : ℕ → List ℕ → List ℕ → Carried
-first_of c ys [] = Nothing
-first_of c ys (x ∷ xs) = Key x (below (x * 16 + c) ys)
+abbrev pub first_of : ℕ → List ℕ → List ℕ → S.Option Carried
+first_of c ys [] = S.None
+first_of c ys (x ∷ xs) = S.Some (record { key = x; slot = below (x * 16 + c) ys })
 
 -- ---- the members one by one
 

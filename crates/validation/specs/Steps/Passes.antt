@@ -1,6 +1,7 @@
 -- What the passes of a check ask and say: the members of buckets that were read, or the first that is unsound; the first bucket that fails a test;
 -- an image whose buckets were all read; and the members that a check counts.
 use Rattle.std.specs.Prelude.{◌≡◌, ℕ, ◌*◌, ◌≤◌, ◌<◌, List}
+use Rattle.std.specs.Prelude as S
 use Rattle.std.proofs.Math.Option.{Option, none, some}
 use Rattle.multiset.specs.Multisets.{sum}
 use Rattle.crumbmap.specs.Layouts.{Layout, fronts, backyards}
@@ -11,12 +12,8 @@ use Rattle.machine.specs.Checks.{unsound_front, unsound_back, check_sized}
 use Rattle.form.specs.Tails.{members}
 use Rattle.answers.specs.Answers.{refusal}
 use Rattle.image.specs.Steps.ImageReads.{FrontRead, BackRead, Whole}
-use Rattle.validation.specs.declared.Tally.{Tally}
-use Rattle.validation.specs.declared.Tally.TheVariants as T
-use Rattle.validation.specs.declared.Fault.{Fault}
-use Rattle.validation.specs.declared.Fault.TheVariants as F
-use Rattle.validation.specs.declared.Checked.{Checked}
-use Rattle.validation.specs.declared.Checked.TheVariants as C
+use Rattle.answers.specs.declared.Refusal.{Refusal}
+use Rattle.answers.specs.declared.UnsoundBucket.{UnsoundBucket}
 
 -- the first n of the buckets that are read have m members, at most k each
 pub record Counts (read : ℕ → Result (List ℕ)) (k n m : ℕ) : Type 0 where
@@ -24,9 +21,9 @@ pub record Counts (read : ℕ → Result (List ℕ)) (k n m : ℕ) : Type 0 wher
   pub few : m ≤ n * k
 
 -- the first bucket that fails a test, or none
-abbrev pub fault_of : Option ℕ → Fault
-fault_of none = F.Nowhere
-fault_of (some i) = F.At i
+abbrev pub fault_of : Option ℕ → S.Option ℕ
+fault_of none = S.None
+fault_of (some i) = S.Some i
 
 module _ (L : Layout) (B : ℕ) (img : List ℕ) where
   -- no bucket of a kind is unsound, and so many members are in them
@@ -37,13 +34,13 @@ module _ (L : Layout) (B : ℕ) (img : List ℕ) where
   BacksCounted m = (unsound_back L B (backyards B) 0 img ≡ none) × Counts (λ (j : ℕ). back_at L B j img) L.back_slots (backyards B) m
 
   -- what the pass over the front buckets says, and that over the backyard buckets
-  abbrev pub FrontsSay : Tally → Type 0
-  FrontsSay (T.Members m) = FrontsCounted m
-  FrontsSay (T.Unsound i) = unsound_front L (fronts B) 0 img ≡ some i
+  abbrev pub FrontsSay : S.Result ℕ UnsoundBucket → Type 0
+  FrontsSay (S.Ok m) = FrontsCounted m
+  FrontsSay (S.Err i) = unsound_front L (fronts B) 0 img ≡ some i.0
 
-  abbrev pub BacksSay : Tally → Type 0
-  BacksSay (T.Members m) = BacksCounted m
-  BacksSay (T.Unsound i) = unsound_back L B (backyards B) 0 img ≡ some i
+  abbrev pub BacksSay : S.Result ℕ UnsoundBucket → Type 0
+  BacksSay (S.Ok m) = BacksCounted m
+  BacksSay (S.Err i) = unsound_back L B (backyards B) 0 img ≡ some i.0
 
   -- all buckets of an image of size B were read and are sound
   pub record AllRead : Type 0 where
@@ -56,6 +53,6 @@ module _ (L : Layout) (B : ℕ) (img : List ℕ) where
   counted_check = and_then (check_sized L B img) λ _. accepted (members L B img)
 
 -- the members that it counted, or why it refused
-abbrev pub checked_of : Checked → Result ℕ
-checked_of (C.Members n) = accepted n
-checked_of (C.Refused r) = refusal r
+abbrev pub checked_of : S.Result ℕ Refusal → Result ℕ
+checked_of (S.Ok n) = accepted n
+checked_of (S.Err r) = refusal r

@@ -1,9 +1,10 @@
 -- `deletion::delete::delete_at` meets its contract. What the plan says of the machine's delete is what is written, where the total has room.
 use mathlib.Core.Path.{◌≡◌, refl, ◌∙◌, ap}
 use mathlib.Core.Bool.{not}
+use Rattle.std.proofs.lemmas.Result.{err_from_is_err_and}
 use Rattle.crumbmap.specs.Layouts.{layout1}
 use Rattle.machine.specs.Machine.{delete_at}
-use Rattle.answers.proofs.ChangeLaws.{changes, change-refused}
+use Rattle.answers.proofs.ChangeLaws.{changes}
 use Rattle.tails.specs.Steps.Changing.{within}
 use Rattle.tails.proofs.ChangeLaws.{within-room}
 use Rattle.deletion.specs.Steps.Deletions.{LeavesFront, Refills, TakesOut}
@@ -21,36 +22,24 @@ roomy c =
     within-room a.room (delete_at layout1 a.target.size a.target.front.0 a.target.key a.image.now) (ap not c.if-not-room.false)
 
 leaves : (c : In-Leaves) → let a = c.args in LeavesFront layout1 a.target c.in-Leaves.slot a.image.now
-leaves c = let a = c.args in plan-leaves layout1 a.target a.image.now c.plan-planned.ensures c.in-Leaves.is
+leaves c = let a = c.args in plan-leaves layout1 a.target a.image.now c.in_ok-planned.ensures c.in-Leaves.is
 
 refills : (c : In-Refills) → let a = c.args in Refills layout1 a.target c.in-Refills.refill a.image.now
-refills c = let a = c.args in plan-refills layout1 a.target a.image.now c.plan-planned.ensures c.in-Refills.is
+refills c = let a = c.args in plan-refills layout1 a.target a.image.now c.in_ok-planned.ensures c.in-Refills.is
 
 takes_out : (c : In-TakesOut) → let a = c.args in TakesOut layout1 a.target c.in-TakesOut.member a.image.now
-takes_out c = let a = c.args in plan-takes-out layout1 a.target a.image.now c.plan-planned.ensures c.in-TakesOut.is
+takes_out c = let a = c.args in plan-takes-out layout1 a.target a.image.now c.in_ok-planned.ensures c.in-TakesOut.is
 
-pub remove_front_at-requires : goal.remove_front_at-requires
-remove_front_at-requires c =
-    let l = leaves (goal.at.remove_front_at-requires c).In-Leaves in
-    (l.read, l.here)
-
-pub refill_from-requires : goal.refill_from-requires
-refill_from-requires c = refills (goal.at.refill_from-requires c).In-Refills
-
-pub take_out-requires : goal.take_out-requires
-take_out-requires c = (takes_out (goal.at.take_out-requires c).In-TakesOut).stands
+pub returns-in_err-planned : goal.returns-in_err-planned
+returns-in_err-planned c =
+    let a = c.args in
+    let p = err_from_is_err_and c.from_residual.result c.from_residual.ensures.1 in
+    rw (p.1, p.2) (plan-refused layout1 a.target a.image.now a.room c.in_err-planned.ensures)
 
 pub returns-then-not-room : goal.returns-then-not-room
 returns-then-not-room c =
     let a = c.args in
-    rw (c.if-not-room.true, c.without_room.ensures)
-    (plan-roomless layout1 a.target a.image.now c.plan-planned.result c.plan-planned.ensures)
-
-pub returns-in-Refused : goal.returns-in-Refused
-returns-in-Refused c =
-    let a = c.args in
-    changes (roomy (goal.at.returns-in-Refused c).Else-not-room ∙ plan-refused layout1 a.target a.image.now c.plan-planned.ensures c.in-Refused.is)
-    (change-refused c.in-Refused.why a.image.now)
+    rw c.if-not-room.true (plan-roomless layout1 a.target a.image.now c.in_ok-planned.planned c.in_ok-planned.ensures)
 
 pub returns-in-Leaves : goal.returns-in-Leaves
 returns-in-Leaves c =

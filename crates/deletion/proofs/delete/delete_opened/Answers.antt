@@ -1,10 +1,11 @@
 -- `deletion::delete::delete_opened` meets its contract: 13, then the body's delete within the total's room, then the tail's new numbers.
-use mathlib.Core.Path.{◌≡◌}
+use mathlib.Core.Path.{◌≡◌, refl}
 use Prim.Native.Nat.{◌+◌, ◌-◌}
 use native.Mathlib.Omega.{arith}
 use lib.ListN.{take}
 use lib.Dec.{ltb}
 use borrow.Author.Tests.{ltb-true}
+use Rattle.std.proofs.lemmas.Result.{err_from_is_err_and}
 use Rattle.crumbmap.specs.Layouts.{layout1}
 use Rattle.machine.specs.Results.{Result}
 use Rattle.machine.specs.Machine.{Change, delete_at}
@@ -38,9 +39,6 @@ pub returns-then-opened-eq-TOP : goal.returns-then-opened-eq-TOP
 returns-then-opened-eq-TOP c =
     opened_spent c.requires (M.delete_of layout1 (F.body c.args.image.now) c.args.hash) (adjusts (goal.at.returns-then-opened-eq-TOP c).Start) (delete-entered c.requires c.args.hash) c.if-opened-eq-TOP.true
 
-pub slice_bounds-delete_at-end-2 : goal.slice_bounds-delete_at-end-2
-slice_bounds-delete_at-end-2 c = body-long c.requires
-
 pub delete_at-requires : goal.delete_at-requires
 delete_at-requires c = body-placed c.requires c.target_of-target.ensures
 
@@ -48,17 +46,21 @@ pub overflow_sub-opened : goal.overflow_sub-opened
 overflow_sub-opened c =
     let t = c.target_of-target in
     let total = c.args.opened.total in
-    omega (arith, ltb-true 0 total (had-room (ltb 0 total) (body (goal.at.overflow_sub-opened c).Start t.result) c.delete_at.ensures c.in-Accepted.is))
+    omega (arith, ltb-true 0 total (had-room (ltb 0 total) (body (goal.at.overflow_sub-opened c).Start t.result) c.in_ok-answer.ensures refl))
 
-pub returns-in-Refused : goal.returns-in-Refused
-returns-in-Refused c =
+pub returns-in_err-answer : goal.returns-in_err-answer
+returns-in_err-answer c =
+    let s = (goal.at.returns-in_err-answer c).Start in
     let t = c.target_of-target in
-    opened-refused c.requires (body (goal.at.returns-in-Refused c).Start t.result) (adjusts (goal.at.returns-in-Refused c).Start) (delete-opened c.requires c.args.hash t.ensures) c.if-opened-eq-TOP.false
-    (ltb 0 c.args.opened.total) (tail (goal.at.returns-in-Refused c).Start) (roomed (goal.at.returns-in-Refused c).Start) c.delete_at.ensures c.in-Refused.is
+    let p = err_from_is_err_and c.from_residual.result c.from_residual.ensures.1 in
+    rw (p.1, p.2)
+    (opened-refused c.requires (body s t.result) (adjusts s) (delete-opened c.requires c.args.hash t.ensures) c.if-opened-eq-TOP.false
+    (ltb 0 c.args.opened.total) (tail s) (roomed s) c.in_err-answer.ensures refl)
 
-pub returns-in-Accepted : goal.returns-in-Accepted
-returns-in-Accepted c =
+pub returns : goal.returns
+returns c =
+    let s = (goal.at.returns c).Start in
     let t = c.target_of-target in
-    opened-accepted c.requires (body (goal.at.returns-in-Accepted c).Start t.result) (adjusts (goal.at.returns-in-Accepted c).Start) (delete-opened c.requires c.args.hash t.ensures) c.if-opened-eq-TOP.false
-    (ltb 0 c.args.opened.total) (tail (goal.at.returns-in-Accepted c).Start) (roomed (goal.at.returns-in-Accepted c).Start) c.delete_at.ensures
-    (omega (arith, c.delete_at.auto, body-long c.requires)) c.write_tail.ensures c.in-Accepted.is
+    opened-accepted c.requires (body s t.result) (adjusts s) (delete-opened c.requires c.args.hash t.ensures) c.if-opened-eq-TOP.false
+    (ltb 0 c.args.opened.total) (tail s) (roomed s) c.in_ok-answer.ensures
+    (omega (arith, c.delete_at.auto, body-long c.requires)) c.write_tail.ensures refl

@@ -1,40 +1,32 @@
 -- `deletion::plan::plan_behind` meets its contract. A copy behind leaves, or there is none.
-use mathlib.Core.Bool.{true, false}
-use Rattle.crumbmap.specs.Layouts.{layout1}
-use Rattle.image.specs.Steps.ImageReads.{Reads}
-use Rattle.image.proofs.ImageReadLaws.{both_read, both-sound, both-unsound, read-for}
+use mathlib.Core.Path.{◌≡◌}
+use native.Mathlib.Omega.{arith}
+use Rattle.std.specs.Prelude as S
+use Rattle.std.proofs.lemmas.Result.{err_from_is_err_and}
+use Rattle.answers.specs.declared.Refusal.TheVariants.{Absent}
+use Rattle.image.proofs.ImageReadLaws.{both_read}
 use Rattle.deletion.proofs.LeavingLaws.{copy-member, copy-nothing}
 use Rattle.deletion.proofs.DeleteSteps.{behind-unsound, behind-absent, behind-taken}
-use Rattle.deletion.proofs.plan.plan_behind.Goals.{In-Sound}
 use Rattle.deletion.proofs.plan.plan_behind.Goals as goal
 
--- both backyard buckets were read for the key
-both : (c : In-Sound) →
-    let t = c.args.target in
-    let img = c.args.image.now in
-    Reads layout1 true t.size t.front.0 t.key img c.in-Sound.a × Reads layout1 false t.size t.front.0 t.key img c.in-Sound.b
-both c =
-    let a = c.args in
-    both-sound layout1 a.target.size a.target.front.0 a.target.key a.image.now c.read_backyard.ensures c.in-Sound.is
+pub returns-in_err-a : goal.returns-in_err-a
+returns-in_err-a c =
+    let p = err_from_is_err_and c.from_residual.result c.from_residual.ensures.1 in
+    rw (p.1, p.2) (behind-unsound c.args.target c.args.image.now c.requires.1 c.in_err-a.ensures)
 
-pub copy-requires : goal.copy-requires
-copy-requires c = let k = c.requires.0.key in (read-for (both c).0 k, read-for (both c).1 k)
+pub returns-in_err-member : goal.returns-in_err-member
+returns-in_err-member c =
+    let b = c.in_ok-a.ensures in
+    let p = err_from_is_err_and c.from_residual-in_err-member.result c.from_residual-in_err-member.ensures.1 in
+    let none : c.copy.result ≡ S.None = grind arith in
+    let why : c.in_err-member.field-0.0 ≡ Absent = grind arith in
+    rw (p.1, p.2, why) (behind-absent c.args.target c.args.image.now c.requires.1 (both_read b.0 b.1) (copy-nothing b.0 b.1 c.copy.ensures none))
 
-pub returns-in-Unsound : goal.returns-in-Unsound
-returns-in-Unsound c =
-    let t = c.args.target in
-    behind-unsound t c.args.image.now c.requires.1
-    (both-unsound layout1 t.size t.front.0 t.key c.args.image.now c.read_backyard.ensures c.in-Unsound.is)
-
-pub returns-in-Nothing : goal.returns-in-Nothing
-returns-in-Nothing c =
-    let b = both (goal.at.returns-in-Nothing c).In-Sound in
-    behind-absent c.args.target c.args.image.now c.requires.1 (both_read b.0 b.1) (copy-nothing b.0 b.1 c.copy.ensures c.in-Nothing.is)
-
-pub returns-in-Member : goal.returns-in-Member
-returns-in-Member c =
-    let b = both (goal.at.returns-in-Member c).In-Sound in
-    let m = copy-member b.0 b.1 c.copy.ensures c.in-Member.is in
+pub returns : goal.returns
+returns c =
+    let b = c.in_ok-a.ensures in
+    let some : c.copy.result ≡ S.Some c.in_ok-member.member = grind arith in
+    let m = copy-member b.0 b.1 c.copy.ensures some in
     record {
       stands = m.0.stands;
       delete = behind-taken c.args.target c.args.image.now c.requires.1 (both_read b.0 b.1) m.2 m.1 m.0;

@@ -1,13 +1,12 @@
 -- `edit::remove_back` meets its contract: word and tags change at one of the member's slots, and so do the crumbs.
-use mathlib.Core.Path.{refl, ◌∙◌}
+use mathlib.Core.Path.{◌∙◌}
 use Prim.Native.Nat.{◌<◌}
 use native.Mathlib.Omega.{arith}
-use lib.Dec.{lit≤}
 use Rattle.crumbmap.specs.Layouts.{layout1}
 use Rattle.buckets.proofs.ElementLaws.{below-bytes}
 use Rattle.buckets.proofs.BucketLaws.{fits1}
 use Rattle.minifilter.proofs.HeldLaws.{back-list}
-use Rattle.edits.proofs.BackEdits.{back-lt, crumbs-long, back-removed}
+use Rattle.edits.proofs.BackEdits.{back-lt, back-room, crumbs-long, back-removed}
 use Rattle.edits.proofs.edit.remove_back.Goals.{After-slice_known-1}
 use Rattle.edits.proofs.edit.remove_back.Goals as goal
 
@@ -23,7 +22,7 @@ remove_slot-requires c =
     let a = c.args in
     let b = a.b.now in
     let fit = back-lt layout1 fits1 b (below-bytes b c.slice_known-1.given) c.requires.0 a.member a.slot c.requires.1 c.requires.2 in
-    (record { long = c.requires.0.long; inside = lit≤ tt; even = refl; wide = lit≤ tt; room = omega (arith, slot_lt (goal.at.remove_slot-requires c).After-slice_known-1) }, omega (arith, fit))
+    (back-room b a.slot c.requires.0.long (slot_lt (goal.at.remove_slot-requires c).After-slice_known-1), omega (arith, fit))
 
 pub remove_crumb-requires : goal.remove_crumb-requires
 remove_crumb-requires c =

@@ -1,14 +1,10 @@
--- What holds at each turn of the loop, and what gets less.
+-- What holds at each turn of the loop.
 use mathlib.Core.Path.{◌≡◌}
-use Prim.Native.Nat.{◌-◌, ◌≤◌}
-use lib.ListN.{length, take}
+use lib.ListN.{take}
 use Rattle.multiset.specs.Digits.{highs}
 use Rattle.crumbmap.specs.Layouts.{layout1, tags}
 use Rattle.buckets.specs.Words.{word_from}
 use Rattle.edits.proofs.write.word_for.Given as goal
 
 abbrev pub invariant-loop-slot : goal.invariant-loop-slot
-invariant-loop-slot l = (l.slot ≤ length l.keys) × (l.word ≡ word_from layout1.minis 0 (take l.slot (highs (tags layout1) l.keys)))
-
-abbrev pub decreases-loop-slot : goal.decreases-loop-slot
-decreases-loop-slot l = length l.keys - l.slot
+invariant-loop-slot l = l.word ≡ word_from layout1.minis 0 (take l.slot (highs (tags layout1) l.keys))

@@ -5,10 +5,8 @@ use Rattle.multiset.specs.Multisets.{Found, found_in}
 use Rattle.crumbmap.specs.Layouts.{layout1}
 use Rattle.crumbmap.specs.CrumbMap.{first_bucket, first_crumb}
 use Rattle.search.specs.Steps.Searches.{search_of}
-use Rattle.search.proofs.FoundLaws.{search-some, search-none}
 use Rattle.machine.specs.Images.{in_back}
-use Rattle.image.proofs.ImageReadLaws.{bag-read}
-use Rattle.grouping.proofs.LoneLaws.{way-found, first_found, same-shared, shares}
+use Rattle.grouping.proofs.LoneLaws.{way-found, is-found, first_found, same-shared, shares}
 use Rattle.grouping.proofs.share.share_again.Goals.{After-seek_at}
 use Rattle.grouping.proofs.share.share_again.Goals as goal
 
@@ -28,22 +26,10 @@ returns-then-coincide c =
     same-shared layout1 a.size a.front.0 a.key a.image.now c.requires.2 c.requires.0.front (sym c.coincide.ensures ∙ c.if-coincide.true) c.requires.3
     (omega arith)
 
-pub seek_at-requires : goal.seek_at-requires
-seek_at-requires c = let p = c.requires in (bag-read c.first_of.ensures p.3, p.1)
-
-pub share_second-requires : goal.share_second-requires
-share_second-requires c =
-    let p = c.requires in (
-      p.0,
-      p.1,
-      record { over = p.2; read = p.3; absent = search-none (standing (goal.at.share_second-requires c).After-seek_at) (found (goal.at.share_second-requires c).After-seek_at) c.in_default.is },
-      omega arith,
-      sym c.coincide.ensures ∙ c.if-coincide.false,
-    )
-
-pub returns : goal.returns
-returns c =
+pub returns-then-is_some : goal.returns-then-is_some
+returns-then-is_some c =
     let a = c.args in
-    let f = a.front.0 in
-    shares layout1 a.size f a.key a.image.now
-    (first_found layout1 a.size f a.key a.image.now c.requires.2 c.requires.3 (search-some (standing (goal.at.returns c).After-seek_at) (found (goal.at.returns c).After-seek_at) c.in-At.is)) (omega arith)
+    let q = (goal.at.returns-then-is_some c).After-seek_at in
+    let s = is-found (standing q) (found q) c.is_some.ensures c.if-is_some.true in
+    shares layout1 a.size a.front.0 a.key a.image.now
+    (first_found layout1 a.size a.front.0 a.key a.image.now c.requires.2 c.requires.3 s.1) (omega arith)

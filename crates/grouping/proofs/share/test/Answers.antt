@@ -17,15 +17,7 @@ returns-then-key-s c =
     tested-same layout1 a.image.now a.s c.requires _ c.if-key-s.true
     ∙ tested_at-same a.image.now a.s (sym c.if-f-s.true ∙ f) c.key_of-key.ensures.0
 
-pub advance-requires : goal.advance-requires
-advance-requires c =
-    let p = c.requires in
-    (p, record { whole = p.whole; front = c.front_of-front.ensures.1 }, c.key_of-key.ensures.1)
-
 pub returns : goal.returns
 returns c =
     let a = c.args in
     c.advance.ensures ∙ tested_at-same a.image.now a.s c.front_of-front.ensures.0 c.key_of-key.ensures.0
-
-pub front_of-front-requires : goal.front_of-front-requires
-front_of-front-requires c = let w = c.requires.whole in (w.some, w.small)

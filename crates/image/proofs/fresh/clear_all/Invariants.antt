@@ -1,17 +1,12 @@
--- What holds at each turn of the loop, and what gets less.
+-- The first `i` buckets are empty, and the rest is as it was.
 use mathlib.Core.Path.{◌≡◌}
-use Prim.Native.Nat.{◌*◌, ◌-◌, ◌≤◌}
+use Prim.Native.Nat.{◌*◌}
 use mathlib.Core.List.{[], ◌++◌}
-use lib.ListN.{length, drop}
+use lib.ListN.{drop}
 use Rattle.crumbmap.specs.Layouts.{layout1}
 use Rattle.buckets.specs.Buckets.{front_bytes}
 use Rattle.machine.specs.Images.{repeated}
 use Rattle.image.proofs.fresh.clear_all.Given as goal
 
 abbrev pub invariant-loop-i : goal.invariant-loop-i
-invariant-loop-i l =
-    (l.i ≤ l.buckets) × (length l.image ≡ length l.initial.image)
-    × (l.image ≡ repeated l.i (front_bytes layout1 []) ++ drop (64 * l.i) l.initial.image)
-
-abbrev pub decreases-loop-i : goal.decreases-loop-i
-decreases-loop-i l = l.buckets - l.i
+invariant-loop-i l = l.image ≡ repeated l.i (front_bytes layout1 []) ++ drop (64 * l.i) l.initial.image

@@ -7,9 +7,6 @@ use Rattle.machine.specs.Images.{in_front}
 use Rattle.crumbmap.specs.Layouts.{layout1}
 use Rattle.image.proofs.front.occupied_front.Goals as goal
 
-pub count_front-requires : goal.count_front-requires
-count_front-requires c = rw c.bucket-mine.ensures.0 c.requires.0.sound
-
 pub returns-then-count_front-eq0 : goal.returns-then-count_front-eq0
 unfolding occupied
 returns-then-count_front-eq0 c =

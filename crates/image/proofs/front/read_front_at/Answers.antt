@@ -1,4 +1,5 @@
 -- `image::front::read_front_at` meets its contract: what the reader says of the bucket's bytes is what the image says of that bucket (`front-says`).
+use mathlib.Core.Path.{refl}
 use Rattle.crumbmap.specs.Layouts.{layout1}
 use Rattle.buckets.proofs.BucketLaws.{fits1}
 use Rattle.image.proofs.PartLaws.{front-says}
@@ -7,5 +8,9 @@ use Rattle.image.proofs.front.read_front_at.Goals as goal
 pub returns : goal.returns
 returns c =
     let a = c.args in
-    front-says layout1 fits1 a.front.0 a.key a.image.now c.requires.0 (λ i. (c.type_inv.image i).fits)
-    (rw c.bucket.ensures.0 at c.read_front.ensures)
+    front-says layout1 fits1 a.front.0 a.image.now c.requires.0 (λ i. (c.type_inv.image i).fits) a.key (rw c.bucket.ensures.0 at c.in-Some.ensures) refl
+
+pub returns-in_default : goal.returns-in_default
+returns-in_default c =
+    let a = c.args in
+    front-says layout1 fits1 a.front.0 a.image.now c.requires.0 (λ i. (c.type_inv.image i).fits) a.key (rw c.bucket.ensures.0 at c.in_default.ensures) refl

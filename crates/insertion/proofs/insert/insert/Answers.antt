@@ -1,21 +1,19 @@
 -- `insertion::insert::insert` meets its contract: opened, or refused before anything else.
+use Rattle.std.proofs.lemmas.Result.{err_from_is_err_and}
 use Rattle.machine.specs.Calls as M
 use Rattle.form.specs.Tails.{body, raised}
 use Rattle.form.specs.Calls.{changed_by, insert_of}
 use Rattle.answers.proofs.ChangeLaws.{changes, change-refused}
-use Rattle.tails.proofs.OpenLaws.{said-open, said-shut, then-shut}
+use Rattle.tails.proofs.OpenLaws.{then-shut}
 use Rattle.insertion.proofs.insert.insert.Goals as goal
 
-pub insert_opened-requires : goal.insert_opened-requires
-insert_opened-requires c =
-    said-open c.args.image.now c.open_image.ensures c.in-At.is
-
-pub returns-in-Refused : goal.returns-in-Refused
+pub returns-in_err-opened : goal.returns-in_err-opened
 unfolding insert_of
-returns-in-Refused c =
+returns-in_err-opened c =
     let a = c.args in
-    changes
-    (then-shut a.image.now c.in-Refused.why
-    (λ h. changed_by h (M.insert_of h.layout (body a.image.now) a.hash) (raised h.layout h.size h.tail))
-    (said-shut a.image.now c.open_image.ensures c.in-Refused.is))
-    (change-refused c.in-Refused.why a.image.now)
+    let why = c.in_err-opened.field-0.0 in
+    let p = err_from_is_err_and c.from_residual.result c.from_residual.ensures.1 in
+    rw (p.1, p.2)
+    (changes
+    (then-shut a.image.now why (λ h. changed_by h (M.insert_of h.layout (body a.image.now) a.hash) (raised h.layout h.size h.tail)) c.in_err-opened.ensures)
+    (change-refused why a.image.now))

@@ -1,10 +1,11 @@
 -- `insertion::insert::insert_at` meets its contract. What the plan says of the machine's insert is what is written, where the total has room.
 use mathlib.Core.Path.{◌≡◌, refl, ◌∙◌, ap}
 use mathlib.Core.Bool.{not}
+use Rattle.std.proofs.lemmas.Result.{err_from_is_err_and}
 use Rattle.crumbmap.specs.Layouts.{layout1}
 use Rattle.machine.specs.Machine.{insert_at}
 use Rattle.image.specs.Steps.ImageReads.{FrontJoin}
-use Rattle.answers.proofs.ChangeLaws.{changes, change-refused}
+use Rattle.answers.proofs.ChangeLaws.{changes}
 use Rattle.tails.specs.Steps.Changing.{within}
 use Rattle.tails.proofs.ChangeLaws.{within-room}
 use Rattle.insertion.specs.Steps.Insertions.{Spills}
@@ -26,37 +27,31 @@ joins : (c : In-Joins) →
     FrontJoin layout1 a.target.front.0 c.in-Joins.slot a.target.key a.image.now
 joins c =
     let a = c.args in
-    plan-joins layout1 a.target a.image.now c.plan-planned.ensures c.in-Joins.is
+    plan-joins layout1 a.target a.image.now c.in_ok-planned.ensures c.in-Joins.is
 
 spills : (c : In-Spills) →
     let a = c.args in
     Spills layout1 a.target c.in-Spills.spilling a.image.now
 spills c =
     let a = c.args in
-    plan-spills layout1 a.target a.image.now c.plan-planned.ensures c.in-Spills.is
+    plan-spills layout1 a.target a.image.now c.in_ok-planned.ensures c.in-Spills.is
 
-pub insert_front_at-requires : goal.insert_front_at-requires
-insert_front_at-requires c = joins (goal.at.insert_front_at-requires c).In-Joins
-
-pub spill-requires : goal.spill-requires
-spill-requires c = spills (goal.at.spill-requires c).In-Spills
+pub returns-in_err-planned : goal.returns-in_err-planned
+returns-in_err-planned c =
+    let a = c.args in
+    let p = err_from_is_err_and c.from_residual.result c.from_residual.ensures.1 in
+    rw (p.1, p.2) (plan-refused layout1 a.target a.image.now a.room c.in_err-planned.ensures)
 
 pub returns-then-not-room : goal.returns-then-not-room
 returns-then-not-room c =
     let a = c.args in
-    rw (c.if-not-room.true, c.without_room.ensures)
-    (plan-roomless layout1 a.target a.image.now c.plan-planned.result c.plan-planned.ensures)
-
-pub returns-in-Refused : goal.returns-in-Refused
-returns-in-Refused c =
-    let a = c.args in
-    changes (roomy (goal.at.returns-in-Refused c).Else-not-room ∙ plan-refused layout1 a.target a.image.now c.plan-planned.ensures c.in-Refused.is)
-    (change-refused c.in-Refused.why a.image.now)
+    rw c.if-not-room.true (plan-roomless layout1 a.target a.image.now c.in_ok-planned.planned c.in_ok-planned.ensures)
 
 pub returns-in-Joins : goal.returns-in-Joins
 returns-in-Joins c =
     let a = c.args in
-    changes (roomy (goal.at.returns-in-Joins c).Else-not-room ∙ insert-short a.target a.image.now (joins (goal.at.returns-in-Joins c).In-Joins).read (joins (goal.at.returns-in-Joins c).In-Joins).room)
+    let j = joins (goal.at.returns-in-Joins c).In-Joins in
+    changes (roomy (goal.at.returns-in-Joins c).Else-not-room ∙ insert-short a.target a.image.now j.read j.room)
     (record { answer = refl; bytes = c.insert_front_at.ensures })
 
 pub returns-in-Spills : goal.returns-in-Spills

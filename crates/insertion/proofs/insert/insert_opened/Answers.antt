@@ -1,8 +1,10 @@
 -- `insertion::insert::insert_opened` meets its contract: 13, then the body's insert within the total's room, then the tail's new numbers.
+use mathlib.Core.Path.{refl}
 use Prim.Native.Nat.{◌+◌}
 use native.Mathlib.Omega.{arith}
 use lib.ListN.{take}
 use lib.Dec.{ltb}
+use Rattle.std.proofs.lemmas.Result.{err_from_is_err_and}
 use Rattle.crumbmap.specs.Layouts.{layout1}
 use Rattle.machine.specs.Results.{Result}
 use Rattle.machine.specs.Machine.{Change, insert_at}
@@ -31,9 +33,6 @@ pub returns-then-opened-eq-TOP : goal.returns-then-opened-eq-TOP
 returns-then-opened-eq-TOP c =
     opened_spent c.requires (M.insert_of layout1 (F.body c.args.image.now) c.args.hash) (adjusts (goal.at.returns-then-opened-eq-TOP c).Start) (insert-entered c.requires c.args.hash) c.if-opened-eq-TOP.true
 
-pub slice_bounds-insert_at-end-2 : goal.slice_bounds-insert_at-end-2
-slice_bounds-insert_at-end-2 c = body-long c.requires
-
 pub insert_at-requires : goal.insert_at-requires
 insert_at-requires c = body-placed c.requires c.target_of-target.ensures
 
@@ -41,19 +40,21 @@ pub overflow_add-opened : goal.overflow_add-opened
 overflow_add-opened c = omega (arith, total-low c.requires)
 
 -- the room that the code found is that of the total: `raised-room`
-pub returns-in-Refused : goal.returns-in-Refused
-returns-in-Refused c =
-    let s = (goal.at.returns-in-Refused c).Start in
+pub returns-in_err-answer : goal.returns-in_err-answer
+returns-in_err-answer c =
+    let s = (goal.at.returns-in_err-answer c).Start in
     let o = c.args.opened in
     let t = c.target_of-target in
-    opened-refused c.requires (body s t.result) (adjusts s) (insert-opened c.requires c.args.hash t.ensures) c.if-opened-eq-TOP.false
-    (ltb o.total c.slots_of.result) (tail s) (raised-room o.size o.total o.changes c.slots_of.ensures) c.insert_at.ensures c.in-Refused.is
+    let p = err_from_is_err_and c.from_residual.result c.from_residual.ensures.1 in
+    rw (p.1, p.2)
+    (opened-refused c.requires (body s t.result) (adjusts s) (insert-opened c.requires c.args.hash t.ensures) c.if-opened-eq-TOP.false
+    (ltb o.total c.slots_of.result) (tail s) (raised-room o.size o.total o.changes c.slots_of.ensures) c.in_err-answer.ensures refl)
 
-pub returns-in-Accepted : goal.returns-in-Accepted
-returns-in-Accepted c =
-    let s = (goal.at.returns-in-Accepted c).Start in
+pub returns : goal.returns
+returns c =
+    let s = (goal.at.returns c).Start in
     let o = c.args.opened in
     let t = c.target_of-target in
     opened-accepted c.requires (body s t.result) (adjusts s) (insert-opened c.requires c.args.hash t.ensures) c.if-opened-eq-TOP.false
-    (ltb o.total c.slots_of.result) (tail s) (raised-room o.size o.total o.changes c.slots_of.ensures) c.insert_at.ensures
-    (omega (arith, c.insert_at.auto, body-long c.requires)) c.write_tail.ensures c.in-Accepted.is
+    (ltb o.total c.slots_of.result) (tail s) (raised-room o.size o.total o.changes c.slots_of.ensures) c.in_ok-answer.ensures
+    (omega (arith, c.insert_at.auto, body-long c.requires)) c.write_tail.ensures refl

@@ -3,7 +3,6 @@
 use mathlib.Core.Path.{◌≡◌, refl, sym, ◌∙◌, ap}
 use Prim.Native.Nat.{ℕ, ◌≤◌, ◌<◌}
 use mathlib.Core.List.{List}
-use lib.ListN.{length}
 use native.Mathlib.Omega.{arith}
 use Rattle.multiset.specs.Multisets.{added, largest}
 use Rattle.multiset.proofs.SlotLaws.{below-without}
@@ -11,7 +10,7 @@ use Rattle.crumbmap.specs.Layouts.{layout1}
 use Rattle.buckets.proofs.BucketLaws.{fits1}
 use Rattle.machine.specs.Images.{in_front, in_back, put_front}
 use Rattle.machine.proofs.StayLaws.{rest-list}
-use Rattle.machine.proofs.BucketWrites.{length-put_front, in_back-put_front}
+use Rattle.machine.proofs.BucketWrites.{in_back-put_front}
 use Rattle.image.proofs.ImageReadLaws.{last-at}
 use Rattle.image.proofs.ImageWriteLaws.{back-kept, put_front-same}
 use Rattle.insertion.proofs.InsertSteps.{over-front, left_in, left-swapped, left-same, spilled-put}
@@ -54,12 +53,6 @@ swap_front_at-requires c =
       rank = p.full.rank ∙ sym (below-without x (largest xs) xs (omega (arith, e)));
     })
 
-pub overflow_mul-over : goal.overflow_mul-over
-overflow_mul-over c = omega (arith, c.requires.joins.member)
-
-pub overflow_add-over : goal.overflow_add-over
-overflow_add-over c = omega (arith, c.requires.joins.member)
-
 -- the backyard bucket is as it was
 kept : (s : Start) →
     let t = s.args.target in
@@ -85,19 +78,6 @@ insert_back_at-requires c =
       member = p.joins.member;
       rank = rw (kept at.Start) p.joins.rank;
     })
-
-pub shape_of-image : goal.shape_of-image
-shape_of-image c =
-    let p = c.requires in
-    let a = c.args in
-    let t = a.target in
-    omega (
-      arith,
-      c.insert_back_at.auto,
-      ap length (settled (goal.at.shape_of-image c).Joined-key-over),
-      length-put_front layout1 fits1 t.front.0 (left_in fits1 p.full.whole t.key) a.image.now
-          p.full.whole.read.inside (rest-list layout1 t.key (in_front layout1 t.front.0 a.image.now) p.full.whole.read.list p.full.placed.key),
-    )
 
 pub returns : goal.returns
 returns c =

@@ -10,9 +10,6 @@ use Rattle.insertion.proofs.InsertSteps.{over-largest, over-key}
 use Rattle.insertion.proofs.plan.overflow_of.Goals.{After-largest_front-largest}
 use Rattle.insertion.proofs.plan.overflow_of.Goals as goal
 
-pub largest_front-largest-requires : goal.largest_front-largest-requires
-largest_front-largest-requires c = let p = c.requires.0 in rw c.bucket.ensures.0 (p.read.sound, p.full)
-
 -- the largest in front
 top : (c : After-largest_front-largest) →
     let a = c.args in

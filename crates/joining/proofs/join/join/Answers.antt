@@ -1,8 +1,5 @@
 -- `joining::join::join` meets its contract. One front write and pushes are what putting in all keys of both lists one by one gives (`join-on`,
 -- `join-full`).
-use mathlib.Core.Path.{sym}
-use native.Mathlib.Omega.{arith}
-use lib.Seq.{length-take-le}
 use Rattle.crumbmap.specs.Layouts.{layout1}
 use Rattle.buckets.proofs.BucketLaws.{fits1}
 use Rattle.joining.proofs.CheckedImages.{Known, known}
@@ -13,9 +10,6 @@ use Rattle.joining.proofs.join.join.Goals as goal
 -- the target is known
 target : (c : After-in_front-own) → Known layout1 c.args.size c.args.target.now
 target c = known fits1 (λ i. (c.type_inv.target i).fits) c.requires.1.into.checked
-
-pub slice_bounds-fill_both-end : goal.slice_bounds-fill_both-end
-slice_bounds-fill_both-end c = sym (length-take-le _ _ c.in_front-own.ensures.0)
 
 pub fill_both-gone-requires : goal.fill_both-gone-requires
 fill_both-gone-requires c =
@@ -30,10 +24,6 @@ push_all-requires c =
       join-behind fits1 (target (goal.at.push_all-requires c).After-in_front-own) j.into j.first j.second c.in_front-own.result c.in_front-own.ensures e.2 e.1,
       join-rest fits1 (target (goal.at.push_all-requires c).After-in_front-own) j.into j.first j.second c.in_front-own.result c.in_front-own.ensures,
     )
-
-pub slice_bounds-push_all-end-then-push_all-2 : goal.slice_bounds-push_all-end-then-push_all-2
-slice_bounds-push_all-end-then-push_all-2 c =
-    sym (length-take-le _ _ (omega (arith, c.fill_both-gone.ensures.0, c.fill_both-gone.auto.over)))
 
 pub push_all-requires-then-push_all : goal.push_all-requires-then-push_all
 push_all-requires-then-push_all c =

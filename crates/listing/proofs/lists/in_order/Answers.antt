@@ -20,9 +20,6 @@ behind : (c : Else-from-end) → c.args.from < c.args.end
 behind c =
     omega (arith, c.requires.split, c.if-from-end.false)
 
-pub bounds-keys-from-2 : goal.bounds-keys-from-2
-bounds-keys-from-2 c = omega (arith, behind (goal.at.bounds-keys-from-2 c).Else-from-end, c.requires.inside)
-
 pub returns : goal.returns
 returns c e =
     let p = c.requires in

@@ -6,15 +6,8 @@ use lib.ListN.{length}
 use Rattle.crumbmap.specs.Layouts.{layout1}
 use Rattle.machine.specs.Machine.{bag_in}
 use Rattle.machine.proofs.BagLaws.{length-added_all}
-use Rattle.image.proofs.ImageReadLaws.{chosen-read, bag-read}
 use Rattle.listing.proofs.ListingLaws.{bag-is}
 use Rattle.listing.proofs.members.count_overflow.Goals as goal
-
-pub count_bag-first-requires : goal.count_bag-first-requires
-count_bag-first-requires c = bag-read c.first_of.ensures (chosen-read c.requires.both true)
-
-pub count_bag-second-requires : goal.count_bag-second-requires
-count_bag-second-requires c = bag-read c.second_of.ensures (chosen-read c.requires.both false)
 
 pub returns : goal.returns
 returns c =

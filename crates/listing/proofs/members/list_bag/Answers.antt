@@ -1,6 +1,6 @@
 -- `listing::members::list_bag` meets its contract. The lent bytes are those of the bucket that was read, and the list is written where it is wanted
 -- (`listed-part`).
-use mathlib.Core.Path.{◌≡◌, refl, sym}
+use mathlib.Core.Path.{◌≡◌, refl}
 use Prim.Native.Nat.{ℕ}
 use mathlib.Core.List.{List}
 use native.Mathlib.Omega.{arith}
@@ -15,9 +15,6 @@ use Rattle.listing.proofs.members.list_bag.Goals as goal
 -- the start of the output that is lent
 room : (s : Start) → length (take layout1.back_slots s.args.out.now) ≡ layout1.back_slots
 room s = length-take-le layout1.back_slots s.args.out.now s.requires.1
-
-pub slice_bounds-list_carrying-end-2 : goal.slice_bounds-list_carrying-end-2
-slice_bounds-list_carrying-end-2 c = sym (room (goal.at.slice_bounds-list_carrying-end-2 c).Start)
 
 pub list_carrying-requires : goal.list_carrying-requires
 list_carrying-requires c =

@@ -20,9 +20,6 @@ many c = rw c.bucket-mine.ensures.0 at c.count_front.ensures
 lent : (s : Start) → length (take layout1.front_slots s.args.out.now) ≡ layout1.front_slots
 lent s = length-take-le layout1.front_slots s.args.out.now (omega (arith, s.requires.1))
 
-pub count_front-requires : goal.count_front-requires
-count_front-requires c = rw c.bucket-mine.ensures.0 c.requires.0.front.sound
-
 pub slice_bounds-list_front-end-then-count_front-lt-FRONT_SLOTS : goal.slice_bounds-list_front-end-then-count_front-lt-FRONT_SLOTS
 slice_bounds-list_front-end-then-count_front-lt-FRONT_SLOTS c = sym (lent (goal.at.slice_bounds-list_front-end-then-count_front-lt-FRONT_SLOTS c).Start)
 
@@ -36,8 +33,3 @@ returns-then-count_front-lt-FRONT_SLOTS c =
     let e = listed-bytes (front_list layout1) c.bucket-mine.ensures.0 c.list_front.ensures in
     rw (members-few c.requires.0 few)
     (listed-part e layout1.front_slots c.args.out.now refl (omega (arith, e.many, lent (goal.at.returns-then-count_front-lt-FRONT_SLOTS c).Start, few)))
-
-pub list_full-requires : goal.list_full-requires
-list_full-requires c =
-    let p = c.requires in
-    (p.0, omega (arith, many (goal.at.list_full-requires c).After-count_front, c.if-count_front-lt-FRONT_SLOTS.false), p.1)

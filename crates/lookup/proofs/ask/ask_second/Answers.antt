@@ -1,11 +1,10 @@
 -- `lookup::ask::ask_second` meets its contract: what seeking in b1 finds settles it (`ask-second`).
-use mathlib.Core.Path.{◌≡◌, ◌∙◌}
+use mathlib.Core.Path.{◌∙◌}
+use Rattle.std.specs.Prelude as S
+use Rattle.std.proofs.lemmas.Result.{err_from_is_err_and}
 use Rattle.crumbmap.specs.Layouts.{layout1}
-use Rattle.machine.specs.Machine.{asked, denied, second, ask_second}
 use Rattle.image.proofs.ImageReadLaws.{back_in}
-use Rattle.lookup.specs.declared.Sought.{Sought}
-use Rattle.lookup.proofs.AskSteps.{sought, ask-second}
-use Rattle.lookup.proofs.ask.ask_second.Goals.{After-seek}
+use Rattle.lookup.proofs.AskSteps.{ask-second}
 use Rattle.lookup.proofs.ask.ask_second.Goals as goal
 
 pub seek-requires : goal.seek-requires
@@ -14,18 +13,19 @@ seek-requires c =
     let l = c.second_of.ensures in
     (back_in p.within.whole l.inside, l.small, p.key)
 
--- the ask by what was found in b1
-found : (c : After-seek) {r : Sought} → c.seek.result ≡ r → let a = c.args in let t = a.target in
-    sought (asked a.reads second) (denied a.reads) r ≡ ask_second layout1 t.size t.front.0 t.key a.image.now
-found c e =
+pub returns-in_err-found : goal.returns-in_err-found
+returns-in_err-found c =
     let t = c.args.target in
-    ask-second layout1 t.size t.front.0 t.key c.args.image.now c.seek.ensures e c.second_of.ensures c.requires.1
+    let p = err_from_is_err_and c.from_residual.result c.from_residual.ensures.1 in
+    rw (p.1, p.2) (ask-second layout1 t.size t.front.0 t.key c.args.image.now (S.Err c.in_err-found.field-0.0) c.in_err-found.ensures c.second_of.ensures c.requires.1)
 
-pub returns-in-Unsound : goal.returns-in-Unsound
-returns-in-Unsound c = found (goal.at.returns-in-Unsound c).After-seek c.in-Unsound.is
+pub returns-in-Some : goal.returns-in-Some
+returns-in-Some c =
+    let t = c.args.target in
+    ask-second layout1 t.size t.front.0 t.key c.args.image.now (S.Ok (S.Some c.in-Some.found)) (rw c.in-Some.is at c.in_ok-found.ensures) c.second_of.ensures c.requires.1
 
-pub returns-in-At : goal.returns-in-At
-returns-in-At c = found (goal.at.returns-in-At c).After-seek c.in-At.is
-
-pub returns-in-Absent : goal.returns-in-Absent
-returns-in-Absent c = c.none_in.ensures ∙ found (goal.at.returns-in-Absent c).After-seek c.in-Absent.is
+pub returns-in-None : goal.returns-in-None
+returns-in-None c =
+    let t = c.args.target in
+    c.none_in.ensures
+    ∙ ask-second layout1 t.size t.front.0 t.key c.args.image.now (S.Ok S.None) (rw c.in-None.is at c.in_ok-found.ensures) c.second_of.ensures c.requires.1

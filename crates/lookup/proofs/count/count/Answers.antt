@@ -1,39 +1,29 @@
 -- `lookup::count::count` meets its contract: on an image that was opened it is the body's count at the hash's target.
 use mathlib.Core.Path.{sym, ◌∙◌}
+use Rattle.std.proofs.lemmas.Result.{err_from_is_err_and}
 use Rattle.crumbmap.specs.Layouts.{layout1}
 use Rattle.machine.specs.Machine.{count_at}
 use Rattle.machine.specs.Calls as M
 use Rattle.form.specs.Tails.{body}
 use Rattle.form.specs.Calls.{count_of}
-use Rattle.tails.specs.Steps.Openings.{Opens}
-use Rattle.tails.proofs.OpenLaws.{said-open, said-shut, then-shut, then-opened}
-use Rattle.tails.proofs.CallLaws.{body-long, body-placed, hash-call}
-use Rattle.lookup.proofs.count.count.Goals.{In-At}
+use Rattle.tails.proofs.OpenLaws.{then-shut, then-opened}
+use Rattle.tails.proofs.CallLaws.{body-placed, hash-call}
 use Rattle.lookup.proofs.count.count.Goals as goal
 
-opens : (c : In-At) → Opens c.in-At.opened c.args.image.now
-opens c = said-open c.args.image.now c.open_image.ensures c.in-At.is
-
-pub slice_bounds-count_at-end : goal.slice_bounds-count_at-end
-slice_bounds-count_at-end c = body-long (opens (goal.at.slice_bounds-count_at-end c).In-At)
-
-pub target_of-requires : goal.target_of-requires
-target_of-requires c = let w = (opens (goal.at.target_of-requires c).In-At).whole in (w.some, w.small)
-
 pub count_at-requires : goal.count_at-requires
-count_at-requires c = body-placed (opens (goal.at.count_at-requires c).In-At) c.target_of.ensures
+count_at-requires c = body-placed c.in_ok-opened.ensures c.target_of.ensures
 
-pub returns-in-Refused : goal.returns-in-Refused
+pub returns-in_err-opened : goal.returns-in_err-opened
 unfolding count_of
-returns-in-Refused c =
+returns-in_err-opened c =
     let a = c.args in
-    sym (then-shut a.image.now c.in-Refused.why (λ h. M.count_of h.layout (body a.image.now) a.hash)
-    (said-shut a.image.now c.open_image.ensures c.in-Refused.is))
+    let p = err_from_is_err_and c.from_residual.result c.from_residual.ensures.1 in
+    rw (p.1, p.2) (sym (then-shut a.image.now c.in_err-opened.field-0.0 (λ h. M.count_of h.layout (body a.image.now) a.hash) c.in_err-opened.ensures))
 
-pub returns-in-At : goal.returns-in-At
+pub returns : goal.returns
 unfolding count_of M.count_of
-returns-in-At c =
+returns c =
     let a = c.args in
     c.count_at.ensures
-    ∙ hash-call (opens (goal.at.returns-in-At c).In-At) c.target_of.ensures (λ B f x b. count_at layout1 B f x b)
-    ∙ sym (then-opened (λ h. M.count_of h.layout (body a.image.now) a.hash) (opens (goal.at.returns-in-At c).In-At))
+    ∙ hash-call c.in_ok-opened.ensures c.target_of.ensures (λ B f x b. count_at layout1 B f x b)
+    ∙ sym (then-opened (λ h. M.count_of h.layout (body a.image.now) a.hash) c.in_ok-opened.ensures)

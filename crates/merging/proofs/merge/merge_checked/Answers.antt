@@ -8,7 +8,7 @@ use Rattle.form.specs.Tails.{body}
 use Rattle.form.proofs.TailLaws.{length-body, length_rest}
 use Rattle.tails.proofs.OpenLaws.{whole_long}
 use Rattle.tails.proofs.PartLaws.{end-written, end-lent, rest_part}
-use Rattle.merging.proofs.MergeSteps.{fresh-whole, still-whole, fill-accepted, fill-full}
+use Rattle.merging.proofs.MergeSteps.{fresh-whole, fresh-taken, still-whole, fill-accepted, fill-full}
 use Rattle.merging.proofs.merge.merge_checked.Goals.{After-merge_bodies}
 use Rattle.merging.proofs.merge.merge_checked.Goals as goal
 
@@ -46,6 +46,13 @@ returns-then-merge_bodies c =
     fill-accepted layout1 1 a.size a.total a.first.now a.second.now old c.merge_bodies.result now c.merge_bodies.ensures c.if-merge_bodies.true
     (end-written end now (drop end old) c.start_tail.new.b (long (goal.at.returns-then-merge_bodies c).After-merge_bodies) ∙ rw c.start_tail.ensures)
 
+pub returns-in_err-fresh : goal.returns-in_err-fresh
+returns-in_err-fresh c =
+    let old = c.args.target.now in
+    let now = c.merge_bodies.new.target in
+    absurd (fresh-taken known 1 refl (now ++ drop (length old - 64) old) _
+    (still-whole old now c.requires.1 (long (goal.at.returns-in_err-fresh c).After-merge_bodies)) c.in_err-fresh.ensures.answer)
+
 pub returns : goal.returns
 returns c =
     let a = c.args in
@@ -53,4 +60,4 @@ returns c =
     let now = c.merge_bodies.new.target in
     let left = now ++ drop (length old - 64) old in
     fill-full layout1 1 a.size a.total a.first.now a.second.now old c.merge_bodies.result now c.merge_bodies.ensures c.if-merge_bodies.false
-    (c.fresh.ensures.bytes ∙ fresh-whole known 1 refl left (still-whole old now c.requires.1 (long (goal.at.returns c).After-merge_bodies)))
+    (c.in_ok-fresh.ensures.bytes ∙ fresh-whole known 1 refl left (still-whole old now c.requires.1 (long (goal.at.returns c).After-merge_bodies)))

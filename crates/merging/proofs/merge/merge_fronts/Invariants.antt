@@ -1,5 +1,4 @@
--- What holds at each turn of the loop, and what gets less.
-use Prim.Native.Nat.{◌-◌}
+-- What holds at each turn of the loop.
 use Rattle.crumbmap.specs.Layouts.{layout1}
 use Rattle.joining.specs.Steps.Joins.{Scratch}
 use Rattle.merging.proofs.MergeSteps.{Reaching}
@@ -8,6 +7,3 @@ use Rattle.merging.proofs.merge.merge_fronts.Given as goal
 abbrev pub invariant-loop-f : goal.invariant-loop-f
 invariant-loop-f l =
     Reaching layout1 l.size l.first l.second l.initial.target l.f l.target × Scratch layout1 l.a l.b l.over
-
-abbrev pub decreases-loop-f : goal.decreases-loop-f
-decreases-loop-f l = l.end - l.f

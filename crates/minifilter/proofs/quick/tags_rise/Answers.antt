@@ -1,12 +1,11 @@
 -- `minifilter::quick::tags_rise` meets its contract: what the marks say of all slots, or of those in use and the others (`rising-full`, `rising-some`).
-use mathlib.Core.Path.{◌≡◌, refl, sym, ◌∙◌}
+use mathlib.Core.Path.{refl, sym, ◌∙◌}
 use mathlib.Core.Bool.{false≢true}
-use Prim.Native.Nat.{ℕ, suc, ◌+◌, ◌*◌, ◌%◌, ◌^◌, ◌<◌}
-use native.Mathlib.Nat.{pow-succ'}
+use Prim.Native.Nat.{ℕ, ◌+◌, ◌*◌, ◌%◌, ◌^◌, ◌<◌}
 use native.Mathlib.Omega.{arith}
 use lib.Bits.{bit_or}
-use lib.Pow.{pow_mono}
 use borrow.Author.Tests.{eqb-true}
+use Rattle.minifilter.proofs.MarkLaws.{two-shifted}
 use Rattle.minifilter.proofs.RiseLaws.{rising-full, rising-some}
 use Rattle.minifilter.proofs.quick.tags_rise.Goals as goal
 
@@ -27,6 +26,5 @@ returns c e =
     let t = c.rises in
     let rising : ℕ = bit_or t.result (2 * c.args.bits) % 4194304 in
     let some : n < 22 = omega (arith, c.requires.2, c.if-members-eq-BACK_SLOTS.false) in
-    let unit : 2 * 2 ^ n % 4294967296 ≡ 2 ^ suc n = omega (arith, pow-succ' 2 n, pow_mono {i = n} {j = 22} (omega arith)) in
-    rising-some c.args.b.now c.args.bits t.result n t.ensures (eqb-true (rising + 2) (2 * 2 ^ n % 4294967296) e ∙ unit) some
+    rising-some c.args.b.now c.args.bits t.result n t.ensures (eqb-true (rising + 2) (2 * 2 ^ n % 4294967296) e ∙ two-shifted n (omega arith)) some
     (sym c.tag_of.ensures.0 ∙ c.if-tag_of-ne0.false)

@@ -14,14 +14,14 @@ write_form-requires c =
     let target = c.args.target.now in
     omega (arith, c.requires.0.long, c.requires.1.long, length-body target, whole_long target c.requires.1)
 
-pub returns-in-Refused : goal.returns-in-Refused
-returns-in-Refused c =
+pub returns-in_err-members : goal.returns-in_err-members
+returns-in_err-members c =
     let a = c.args in
-    move-refused (attach_at a.size a.old.now) a.target.now c.in-Refused.why
-    (rw (check-refused layout1 a.size a.old.now c.check_sized.ensures c.in-Refused.is))
+    move-refused (attach_at a.size a.old.now) a.target.now c.from_residual.result c.in_err-members.field-0.0 c.from_residual.ensures
+    (rw (check-refused layout1 a.size a.old.now c.in_err-members.ensures))
 
-pub returns-in-Members : goal.returns-in-Members
-returns-in-Members c =
+pub returns : goal.returns
+returns c =
     let a = c.args in
-    let p = check-counted layout1 a.size a.old.now c.check_sized.ensures c.in-Members.is in
+    let p = check-counted layout1 a.size a.old.now c.in_ok-members.ensures in
     rw (p.0, p.1) record { answer = refl; bytes = c.write_form.ensures }

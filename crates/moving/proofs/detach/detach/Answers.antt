@@ -1,5 +1,4 @@
 -- `moving::detach::detach` meets its contract. The move goes on at the size that both share, or is refused for their lengths.
-use mathlib.Core.Path.{sym, ◌∙◌}
 use Prim.Native.Nat.{◌-◌}
 use lib.ListN.{length}
 use Rattle.machine.specs.Images.{size_of}
@@ -10,35 +9,33 @@ use Rattle.image.specs.Steps.ImageReads.{Whole}
 use Rattle.image.proofs.ImageReadLaws.{whole_of}
 use Rattle.tails.proofs.OpenLaws.{form-whole}
 use Rattle.moving.specs.Steps.Moves.{detach_at}
-use Rattle.moving.proofs.MoveSteps.{sizes-said, sizes-refused, sizes-shared, moved_on, move-refused}
-use Rattle.moving.proofs.detach.detach.Goals.{In-Buckets}
+use Rattle.moving.proofs.MoveSteps.{sizes-refused, sizes-shared, moved_on, move-refused}
+use Rattle.moving.proofs.detach.detach.Goals.{In_ok-size}
 use Rattle.moving.proofs.detach.detach.Goals as goal
 
 -- the size of both
-sizes : (c : In-Buckets) → let a = c.args in Whole c.in-Buckets.size (body a.image.now) × Whole c.in-Buckets.size a.target.now
+sizes : (c : In_ok-size) → let a = c.args in Whole c.in_ok-size.size (body a.image.now) × Whole c.in_ok-size.size a.target.now
 sizes c =
     let a = c.args in
-    let p = size_of (length a.image.now - 64) in
-    let q = size_of (length a.target.now) in
-    let s = sizes-shared p q (sym (sizes-said p q c.form_size.ensures c.size_of.ensures c.shared_size.ensures) ∙ c.in-Buckets.is) in
+    let s = sizes-shared (size_of (length a.image.now - 64)) (size_of (length a.target.now))
+    (rw (c.form_size.ensures, c.size_of.ensures) at c.in_ok-size.ensures) in
     (form-whole a.image.now s.0, whole_of a.target.now s.1)
 
 pub detach_sized-requires : goal.detach_sized-requires
-detach_sized-requires c = sizes (goal.at.detach_sized-requires c).In-Buckets
+detach_sized-requires c = sizes (goal.at.detach_sized-requires c).In_ok-size
 
-pub returns-in-Refused : goal.returns-in-Refused
+pub returns-in_err-size : goal.returns-in_err-size
 unfolding detach_of
-returns-in-Refused c =
+returns-in_err-size c =
     let a = c.args in
-    let p = size_of (length a.image.now - 64) in
-    let q = size_of (length a.target.now) in
     rw (length-body a.image.now)
-    (move-refused _ a.target.now c.in-Refused.why
-    (sizes-refused p q (λ B. detach_at B a.image.now) (sym (sizes-said p q c.form_size.ensures c.size_of.ensures c.shared_size.ensures) ∙ c.in-Refused.is)))
+    (move-refused _ a.target.now c.from_residual.result c.in_err-size.field-0.0 c.from_residual.ensures
+    (sizes-refused (size_of (length a.image.now - 64)) (size_of (length a.target.now)) (λ B. detach_at B a.image.now)
+    (rw (c.form_size.ensures, c.size_of.ensures) at c.in_err-size.ensures)))
 
-pub returns-in-Buckets : goal.returns-in-Buckets
+pub returns : goal.returns
 unfolding detach_of
-returns-in-Buckets c =
+returns c =
     let a = c.args in
-    let s = sizes (goal.at.returns-in-Buckets c).In-Buckets in
+    let s = sizes (goal.at.returns c).In_ok-size in
     rw (moved_on (body a.image.now) a.target.now (λ B. detach_at B a.image.now) s.0 s.1) c.detach_sized.ensures

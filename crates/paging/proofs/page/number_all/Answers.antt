@@ -1,16 +1,10 @@
--- `paging::page::number_all` meets its contract. The loop's invariant: the numbers of the keys passed stand in front of what `out` held. The measure
--- is the keys that are left.
-use mathlib.Core.Path.{refl, ◌∙◌}
+-- `paging::page::number_all` meets its contract. The loop's invariant: the numbers of the keys passed stand in front of what `out` held.
 use native.Mathlib.Omega.{arith}
-use lib.ListN.{length-set}
 use Rattle.crumbmap.specs.Layouts.{layout1, keys}
 use Rattle.crumbmap.specs.Fingerprints.{fingerprint}
 use Rattle.multiset.proofs.MultisetLaws.{below_at}
 use Rattle.listing.proofs.MergedLists.{mapped-on, mapped-all}
 use Rattle.paging.proofs.page.number_all.Goals as goal
-
-pub loop-i-init : goal.loop-i-init
-loop-i-init c = (omega arith, refl, refl)
 
 pub number_of-requires : goal.number_of-requires
 number_of-requires c =
@@ -19,29 +13,11 @@ number_of-requires c =
 pub loop-i-preserved : goal.loop-i-preserved
 loop-i-preserved c =
     let l = c.loop-i in
-    let on = mapped-on (fingerprint layout1 c.args.front.0) c.args.keys.now c.args.out.now l.out l.i in (
-      omega arith,
-      length-set l.out l.i c.number_of.result ∙ l.invariant.1,
-      rw c.number_of.ensures (on (omega arith) c.requires.2 l.invariant.2),
-    )
-
-pub shape_of-out : goal.shape_of-out
-shape_of-out c = c.loop-i.invariant.1
+    let on = mapped-on (fingerprint layout1 c.args.front.0) c.args.keys.now c.args.out.now l.out l.i in
+    rw c.number_of.ensures (on (omega arith) c.requires.2 l.invariant)
 
 pub returns : goal.returns
 returns c =
     let l = c.loop-i in
     let a = c.args in
-    mapped-all (fingerprint layout1 a.front.0) a.keys.now a.out.now l.out l.i (omega arith) l.invariant.2
-
-pub bounds-keys-i : goal.bounds-keys-i
-bounds-keys-i c = omega arith
-
-pub bounds-out-i : goal.bounds-out-i
-bounds-out-i c = omega arith
-
-pub overflow_add-i : goal.overflow_add-i
-overflow_add-i c = omega arith
-
-pub loop-i-smaller : goal.loop-i-smaller
-loop-i-smaller c = omega arith
+    mapped-all (fingerprint layout1 a.front.0) a.keys.now a.out.now l.out l.i (omega arith) l.invariant

@@ -1,15 +1,9 @@
 -- `paging::page::write_bucket` meets its contract. The members that were listed, each turned into its number.
 use Rattle.crumbmap.specs.Layouts.{layout1}
 use Rattle.crumbmap.specs.Fingerprints.{fingerprint}
-use Rattle.image.proofs.ListedLaws.{listed-fits, listed-length, listed-take, listed-mapped}
+use Rattle.image.proofs.ListedLaws.{listed-take, listed-mapped}
 use Rattle.listing.proofs.ListingLaws.{members-range, front-small}
 use Rattle.paging.proofs.page.write_bucket.Goals as goal
-
-pub slice_bounds-keys-end : goal.slice_bounds-keys-end
-slice_bounds-keys-end c = listed-fits c.list_members-n.ensures
-
-pub slice_bounds-number_all-end : goal.slice_bounds-number_all-end
-slice_bounds-number_all-end c = listed-length c.list_members-n.ensures
 
 pub number_all-requires : goal.number_all-requires
 number_all-requires c =

@@ -1,13 +1,9 @@
--- What holds at each turn of the loop, and what gets less.
+-- What holds at each turn of the loop.
 use mathlib.Core.Path.{◌≡◌}
-use Prim.Native.Nat.{◌≤◌}
-use lib.ListN.{length, drop}
 use mathlib.Core.List.{◌++◌}
+use lib.ListN.{length, drop}
 use Rattle.machine.specs.OccupancyPages.{aligned}
 use Rattle.printing.proofs.decimal.put_aligned.Given as goal
 
 abbrev pub invariant-loop-i : goal.invariant-loop-i
-invariant-loop-i l = (l.i ≤ length l.out) × (length l.out ≡ length l.initial.out) × (aligned (length l.initial.out) l.number ≡ aligned l.i l.v ++ drop l.i l.out)
-
-abbrev pub decreases-loop-i : goal.decreases-loop-i
-decreases-loop-i l = l.i
+invariant-loop-i l = aligned (length l.initial.out) l.number ≡ aligned l.i l.v ++ drop l.i l.out

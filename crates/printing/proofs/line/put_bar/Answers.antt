@@ -5,4 +5,4 @@ use Rattle.printing.proofs.line.put_bar.Goals as goal
 
 pub returns : goal.returns
 returns c =
-    bar-filled layout1 c.args.members c.args.out.now c.requires.0 c.requires.1 _ _ c.fill.ensures c.fill-2.ensures
+    bar-filled layout1 c.args.members c.args.out.now c.requires.0 c.requires.1 _ _ (c.fill.ensures.after (λ y e. e)) (c.fill-2.ensures.after (λ y e. e))

@@ -15,12 +15,6 @@ use Rattle.printing.proofs.page.print_bucket.Goals as goal
 many : (c : After-count_front-near) → let a = c.args in c.count_front-near.result ≡ length (in_front layout1 a.front.0 a.image.now)
 many c = rw c.bucket.ensures.0 at c.count_front-near.ensures
 
-pub bucket-requires : goal.bucket-requires
-bucket-requires c = c.requires.0.front.inside
-
-pub count_front-near-requires : goal.count_front-near-requires
-count_front-near-requires c = rw c.bucket.ensures.0 c.requires.0.front.sound
-
 pub returns-then-near-lt-FRONT_SLOTS : goal.returns-then-near-lt-FRONT_SLOTS
 returns-then-near-lt-FRONT_SLOTS c =
     c.put_line.ensures
@@ -32,11 +26,6 @@ pub count_overflow-requires : goal.count_overflow-requires
 count_overflow-requires c =
     let p = c.requires.0 in
     record { within = p.within; both = (behind-full p (omega (arith, many (goal.at.count_overflow-requires c).After-count_front-near))).1 }
-
-pub put_line-requires-2 : goal.put_line-requires-2
-put_line-requires-2 c =
-    let p = c.requires in
-    (p.1, omega (arith, many (goal.at.put_line-requires-2 c).After-count_front-near, p.0.front.list.room))
 
 pub returns : goal.returns
 returns c =

@@ -67,5 +67,5 @@ returns c =
     (sym (find-some layout1 a.crumbs a.b.now (members (goal.at.returns c).After-past_of-past) (known (goal.at.returns c).After-past_of-past) a.mini a.low a.slot c.requires.low c.requires.rank c.scan.result
     (omega (arith, c.low_of.ensures, c.if-low-low_of.false)) (rw c.past_of-past.ensures.0 at c.scan.ensures)))
 
-pub overflow_sub-result : goal.overflow_sub-result
-overflow_sub-result c = omega (arith, c.scan.ensures.start)
+pub overflow_sub-copies : goal.overflow_sub-copies
+overflow_sub-copies c = omega (arith, c.scan.ensures.start)

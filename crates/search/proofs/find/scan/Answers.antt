@@ -1,40 +1,28 @@
--- `search::find::scan` meets its contract. The loop's invariant: every slot passed holds less than `low`. The measure is what is left of the slots.
-use native.Mathlib.Omega.{arith}
+-- `search::find::scan` meets its contract: every slot passed holds less than `low` (`smaller-on`).
+use Rattle.std.proofs.Common.{arith}
 use Rattle.crumbmap.specs.Layouts.{layout1}
 use Rattle.minifilter.specs.Steps.Slots.{low_at}
 use Rattle.search.proofs.SearchLaws.{smaller-on}
 use Rattle.search.proofs.find.scan.Goals as goal
 
 pub loop-slot-init : goal.loop-slot-init
-loop-slot-init c = (omega arith, omega arith, λ i h l. omega arith)
+loop-slot-init c i h l = omega arith
 
-pub low_of-here-requires : goal.low_of-here-requires
-low_of-here-requires c = (c.requires.0, omega arith)
-
-pub returns-then-low-here : goal.returns-then-low-here
-returns-then-low-here c = record {
+pub returns-then-low-low_of : goal.returns-then-low-low_of
+returns-then-low-low_of c = record {
   start = omega arith;
   stop = omega arith;
-  smaller = c.loop-slot.invariant.2;
+  smaller = c.loop-slot.invariant;
   here = λ l. omega arith;
 }
 
 pub loop-slot-preserved : goal.loop-slot-preserved
-loop-slot-preserved c =
-    let a = c.args in
-    let l = c.loop-slot in
-    (omega arith, omega arith, smaller-on (low_at layout1 a.crumbs a.b.now) a.from l.slot a.low l.invariant.2 (omega arith))
+loop-slot-preserved c = smaller-on (low_at layout1 c.args.crumbs c.args.b.now) c.args.from c.loop-slot.slot c.args.low c.loop-slot.invariant (omega arith)
 
 pub returns : goal.returns
 returns c = record {
   start = omega arith;
   stop = omega arith;
-  smaller = c.loop-slot.invariant.2;
+  smaller = λ i h l. c.loop-slot.invariant i h (omega arith);
   here = λ l. omega arith;
 }
-
-pub overflow_add-slot : goal.overflow_add-slot
-overflow_add-slot c = omega arith
-
-pub loop-slot-smaller : goal.loop-slot-smaller
-loop-slot-smaller c = omega arith

@@ -1,12 +1,9 @@
 -- `shifts::crumbs::insert_crumb` meets its contract: what falls off the first word comes into the bytes behind it.
-use Rattle.std.proofs.Common.{ℕ, [], ◌∷◌, sym, ap, ◌∙◌, arith}
+use Rattle.std.proofs.Common.{ℕ, [], ◌∷◌, sym, ap, ◌∙◌}
 use Rattle.multiset.specs.Digits.{grouped, spread}
 use Rattle.shifts.specs.Steps.Shifts.{inserted, crumb_inserted}
 use Rattle.shifts.proofs.CrumbLaws.{crumbs-stored, crumbs-written, crumb-inserted}
 use Rattle.shifts.proofs.crumbs.insert_crumb.Goals as goal
-
-pub open_lane-new_high-requires : goal.open_lane-new_high-requires
-open_lane-new_high-requires c = (omega arith, c.carried.ensures.0)
 
 pub returns : goal.returns
 unfolding crumb_inserted

@@ -1,11 +1,7 @@
 -- `shifts::lanes::blend` meets its contract: what is below the mask, and what is not.
 use Rattle.std.proofs.Common.{◌^◌}
-use lib.Bits.{and_le_l}
 use Rattle.shifts.proofs.LaneLaws.{kept-bits, high_bits, blend-fits}
 use Rattle.shifts.proofs.lanes.blend.Goals as goal
-
-pub overflow_sub-result : goal.overflow_sub-result
-overflow_sub-result c = and_le_l c.args.y c.mask-keep.result
 
 pub overflow_add-result : goal.overflow_add-result
 overflow_add-result c =

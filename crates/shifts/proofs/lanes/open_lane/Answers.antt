@@ -1,6 +1,5 @@
 -- `shifts::lanes::open_lane` meets its contract: what is below the lane, the number at it, and what moved up by a lane.
 use Rattle.std.proofs.Common.{◌≡◌, ◌+◌, ◌-◌, ◌*◌, ◌%◌, ◌^◌, mod-lt, arith, lit<}
-use lib.Bits.{and_le_l}
 use Rattle.shifts.proofs.LaneLaws.{power_pos, kept-bits}
 use Rattle.shifts.proofs.CrumbLaws.{open-unit, open-digits}
 use Rattle.shifts.proofs.lanes.open_lane.Goals.{After-wrapping_add_u64-unit}
@@ -21,9 +20,6 @@ overflow_add-below c =
     let room = open-unit a.lane a.put c.wrapping_add_u64-unit.result c.requires.0 c.requires.1 (unit c) in
     rw (c.mask-keep.ensures, kept-bits a.x (2 * a.lane))
     (record { fits = omega (arith, room, mod-lt a.x (power_pos 4 (2 * a.lane) (lit< tt))) })
-
-pub overflow_sub-x : goal.overflow_sub-x
-overflow_sub-x c = and_le_l c.args.x c.mask-keep.result
 
 pub returns : goal.returns
 returns c =

@@ -6,4 +6,4 @@ use Rattle.shifts.proofs.lanes.word_at.Goals as goal
 pub returns : goal.returns
 returns c =
     let l = c.args.s.now in
-    word-digits c.args.from c.word_of.result l c.requires (below-bytes l c.shared_slice_known-1.given) c.word_of.ensures
+    word-digits c.args.from c.word_of.result l c.requires (below-bytes l c.type_inv.s) c.word_of.ensures

@@ -1,5 +1,5 @@
--- What holds at each turn of the loop, and what gets less.
-use Rattle.std.proofs.Common.{◌≡◌, ℕ, ◌+◌, ◌*◌, ◌%◌, ◌≤◌, List, length}
+-- What holds at each turn of the loop.
+use Rattle.std.proofs.Common.{◌≡◌, ℕ, ◌*◌, ◌≤◌, List}
 use Rattle.shifts.specs.Steps.Shifts.{mixed}
 use Rattle.shifts.proofs.MoveLaws.{moved_up}
 use Rattle.shifts.proofs.tags.insert_tag.Given as goal
@@ -11,10 +11,5 @@ done slot xs = mixed (slot * 2) xs (moved_up 2 xs)
 abbrev pub partly : ℕ → ℕ → List ℕ → List ℕ
 partly slot end xs = mixed end (done slot xs) xs
 
-abbrev pub invariant-loop-o : goal.invariant-loop-o
-invariant-loop-o l =
-    (l.last + 8 ≡ length l.initial.s) × (l.last ≤ l.initial.o) × (l.initial.o ≤ length l.initial.s) × (8 ≤ l.o) × (l.o ≤ l.initial.o) × (l.o % 8 ≡ 0) × (length l.s ≡ length l.initial.s)
-    × (l.s ≡ mixed l.o l.initial.s (partly l.slot l.initial.o l.initial.s))
-
-abbrev pub decreases-loop-o : goal.decreases-loop-o
-decreases-loop-o l = l.o
+abbrev pub invariant-loop-turn : goal.invariant-loop-turn
+invariant-loop-turn l = (1 ≤ l.turn) × (l.s ≡ mixed (l.turn * 8) l.initial.s (partly l.slot (l.initial.turn * 8) l.initial.s))

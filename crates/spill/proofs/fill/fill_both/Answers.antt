@@ -1,10 +1,9 @@
 -- `spill::fill::fill_both` meets its contract. What stays of both lists, merged, is what stays when the second is put in after the first
 -- (`settled-front`).
-use mathlib.Core.Path.{◌≡◌, sym}
+use mathlib.Core.Path.{◌≡◌}
 use Prim.Native.Nat.{◌+◌}
 use native.Mathlib.Omega.{arith}
 use lib.ListN.{take}
-use lib.Seq.{length-take-le}
 use Rattle.crumbmap.specs.Layouts.{layout1}
 use Rattle.machine.specs.Steps.Spills.{stays}
 use Rattle.machine.proofs.StayLaws.{stays-list}
@@ -18,27 +17,12 @@ written : (c : After-merge_into) →
     ≡ stays layout1.front_slots c.args.b.now c.args.a.now
 written c = settled-front c.settle-split.ensures _ _ c.merge_into.ensures
 
-pub slice_bounds-merge_into-end : goal.slice_bounds-merge_into-end
-slice_bounds-merge_into-end c = sym (length-take-le _ _ c.settle-split.ensures.kept)
-
-pub slice_bounds-merge_into-end-2 : goal.slice_bounds-merge_into-end-2
-slice_bounds-merge_into-end-2 c = sym (length-take-le _ _ c.settle-split.ensures.taken)
-
 pub merge_into-requires : goal.merge_into-requires
 merge_into-requires c =
     let p = c.requires.0 in
     let m = settled-mergeable c.settle-split.ensures p.front.order p.after.order in
     (m.0, m.1, omega (arith, m.2))
 
-pub slice_bounds-fill_front_at-end : goal.slice_bounds-fill_front_at-end
-slice_bounds-fill_front_at-end c =
-    sym (length-take-le _ _ (omega (arith, c.merge_into.auto.out, c.settle-split.ensures.room)))
-
 pub fill_front_at-requires : goal.fill_front_at-requires
 fill_front_at-requires c =
     (c.requires.1, rw (written (goal.at.fill_front_at-requires c).After-merge_into) (stays-list layout1 c.args.b.now c.args.a.now c.requires.0.front c.requires.0.after.range))
-
-pub returns : goal.returns
-returns c =
-    let e = c.settle-split.ensures in
-    (e.gone, e.leaves, rw (written (goal.at.returns c).After-merge_into) at c.fill_front_at.ensures)

@@ -3,14 +3,13 @@ use Rattle.std.proofs.Common.{sym, ◌∙◌, arith}
 use Rattle.stored.proofs.ChecksumLaws.{checksum-more, checksum-end}
 use Rattle.stored.proofs.sum.of_bytes.Goals as goal
 
-pub loop-i-preserved : goal.loop-i-preserved
-loop-i-preserved c =
-    let at = c.loop-i in
-    let bytes = c.args.bytes.now in
-    (omega arith, at.invariant.1 ∙ checksum-more at.s at.i bytes (omega arith) ∙ rw c.mixed-s.ensures)
+pub loop-byte-preserved : goal.loop-byte-preserved
+loop-byte-preserved c =
+    let at = c.loop-byte in
+    let more = checksum-more at.s at.byte-index c.args.bytes.now (omega arith) in
+    at.invariant ∙ more ∙ rw c.mixed-s.ensures
 
 pub returns : goal.returns
 returns c =
-    let at = c.loop-i in
-    let bytes = c.args.bytes.now in
-    sym (at.invariant.1 ∙ checksum-end at.s at.i bytes (omega arith))
+    let at = c.loop-byte in
+    sym (at.invariant ∙ checksum-end at.s at.byte-index c.args.bytes.now (omega arith))

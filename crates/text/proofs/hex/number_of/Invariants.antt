@@ -1,12 +1,9 @@
--- What holds at each turn of the loop, and what gets less.
+-- The number of all is that of the rest behind what is read.
 use mathlib.Core.Path.{◌≡◌}
-use Prim.Native.Nat.{◌≤◌, ◌<◌, ◌-◌, ◌^◌}
-use lib.ListN.{length, drop}
+use Prim.Native.Nat.{◌<◌, ◌^◌}
+use lib.ListN.{drop}
 use Rattle.text.specs.Texts.{unhex}
 use Rattle.text.proofs.hex.number_of.Given as goal
 
-abbrev pub invariant-loop-i : goal.invariant-loop-i
-invariant-loop-i l = (l.i ≤ length l.text) × (l.v < 16 ^ l.i) × (unhex 0 l.text ≡ unhex l.v (drop l.i l.text))
-
-abbrev pub decreases-loop-i : goal.decreases-loop-i
-decreases-loop-i l = length l.text - l.i
+abbrev pub invariant-loop-byte : goal.invariant-loop-byte
+invariant-loop-byte l = (l.v < 16 ^ l.byte-index) × (unhex 0 l.text ≡ unhex l.v (drop l.byte-index l.text))

@@ -1,13 +1,9 @@
--- What holds at each turn of the loop, and what gets less.
+-- The lines of the entries that are passed stand over the output.
 use mathlib.Core.Path.{◌≡◌}
-use Prim.Native.Nat.{◌≤◌, ◌-◌}
-use lib.ListN.{length, take}
+use lib.ListN.{take}
 use Rattle.text.specs.Texts.{over}
 use Rattle.text.specs.Lines.{entry_lines}
 use Rattle.text.proofs.print.put_entries.Given as goal
 
 abbrev pub invariant-loop-i : goal.invariant-loop-i
-invariant-loop-i l = (l.i ≤ length l.entries) × (length l.out ≡ length l.initial.out) × (l.out ≡ over 21 (entry_lines (take l.i l.entries)) l.initial.out)
-
-abbrev pub decreases-loop-i : goal.decreases-loop-i
-decreases-loop-i l = length l.entries - l.i
+invariant-loop-i l = l.out ≡ over 21 (entry_lines (take l.i l.entries)) l.initial.out

@@ -1,28 +1,22 @@
 -- `validation::check::check` meets its contract. The image is opened, and its body checked against the total that its tail tells.
+use Rattle.std.proofs.lemmas.Result.{err_from_is_err_and}
 use Rattle.form.specs.Calls.{checked_by, check_of}
-use Rattle.tails.specs.Steps.Openings.{Opens}
-use Rattle.tails.proofs.OpenLaws.{said-open, said-shut, opened-at}
+use Rattle.tails.proofs.OpenLaws.{opened-at}
 use Rattle.tails.proofs.PartLaws.{body-part}
-use Rattle.tails.proofs.CallLaws.{body-whole, body-long}
-use Rattle.validation.proofs.check.check.Goals.{In-At}
+use Rattle.tails.proofs.CallLaws.{body-whole}
 use Rattle.validation.proofs.check.check.Goals as goal
 
-opens : (c : In-At) → Opens c.in-At.opened c.args.image.now
-opens c = said-open c.args.image.now c.open_image.ensures c.in-At.is
-
-pub slice_bounds-check_total-end : goal.slice_bounds-check_total-end
-slice_bounds-check_total-end c = body-long (opens (goal.at.slice_bounds-check_total-end c).In-At)
+pub returns-in_err-opened : goal.returns-in_err-opened
+unfolding check_of
+returns-in_err-opened c =
+    let p = err_from_is_err_and c.from_residual.result c.from_residual.ensures.1 in
+    rw (p.1, p.2, c.in_err-opened.ensures)
 
 pub check_total-requires : goal.check_total-requires
-check_total-requires c = body-whole (opens (goal.at.check_total-requires c).In-At)
+check_total-requires c = body-whole c.in_ok-opened.ensures
 
-pub returns-in-Refused : goal.returns-in-Refused
-unfolding check_of
-returns-in-Refused c =
-    rw (said-shut c.args.image.now c.open_image.ensures c.in-Refused.is)
-
-pub returns-in-At : goal.returns-in-At
+pub returns : goal.returns
 unfolding check_of checked_by
-returns-in-At c =
-    let img = c.args.image.now in
-    rw (opened-at (opens (goal.at.returns-in-At c).In-At), ← body-part img (opens (goal.at.returns-in-At c).In-At).end) c.check_total.ensures
+returns c =
+    let o = c.in_ok-opened.ensures in
+    rw (opened-at o, ← body-part c.args.image.now o.end) c.check_total.ensures

@@ -1,6 +1,6 @@
--- What holds at each turn of the loop, and what gets less.
+-- What holds at each turn of the loop.
 use mathlib.Core.Path.{◌≡◌}
-use Prim.Native.Nat.{ℕ, ◌-◌, ◌≤◌}
+use Prim.Native.Nat.{ℕ, ◌-◌}
 use Rattle.crumbmap.specs.Layouts.{layout1, backyards}
 use Rattle.machine.specs.Images.{back_at}
 use Rattle.machine.specs.Checks.{unsound_back}
@@ -9,8 +9,5 @@ use Rattle.validation.proofs.check.count_backs.Given as goal
 
 abbrev pub invariant-loop-j : goal.invariant-loop-j
 invariant-loop-j l =
-    (l.j ≤ l.end) × (unsound_back layout1 l.size (backyards l.size) 0 l.image ≡ unsound_back layout1 l.size (backyards l.size - l.j) l.j l.image)
+    (unsound_back layout1 l.size (backyards l.size) 0 l.image ≡ unsound_back layout1 l.size (backyards l.size - l.j) l.j l.image)
     × Counts (λ (e : ℕ). back_at layout1 l.size e l.image) layout1.back_slots l.j l.members
-
-abbrev pub decreases-loop-j : goal.decreases-loop-j
-decreases-loop-j l = l.end - l.j

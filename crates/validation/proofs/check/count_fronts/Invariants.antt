@@ -1,4 +1,4 @@
--- What holds at each turn of the loop, and what gets less.
+-- What holds at each turn of the loop.
 use mathlib.Core.Path.{◌≡◌}
 use Prim.Native.Nat.{ℕ, ◌*◌, ◌-◌, ◌≤◌}
 use Rattle.crumbmap.specs.Layouts.{layout1, fronts}
@@ -9,8 +9,5 @@ use Rattle.validation.proofs.check.count_fronts.Given as goal
 
 abbrev pub invariant-loop-f : goal.invariant-loop-f
 invariant-loop-f l =
-    (l.f ≤ l.end) × (l.free ≤ l.f * layout1.front_slots) × (unsound_front layout1 (fronts l.size) 0 l.image ≡ unsound_front layout1 (fronts l.size - l.f) l.f l.image)
+    (l.free ≤ l.f * layout1.front_slots) × (unsound_front layout1 (fronts l.size) 0 l.image ≡ unsound_front layout1 (fronts l.size - l.f) l.f l.image)
     × Counts (λ (e : ℕ). front_at layout1 e l.image) layout1.front_slots l.f (l.f * layout1.front_slots - l.free)
-
-abbrev pub decreases-loop-f : goal.decreases-loop-f
-decreases-loop-f l = l.end - l.f

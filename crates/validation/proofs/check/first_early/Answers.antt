@@ -1,7 +1,5 @@
 -- `validation::check::first_early` meets its contract. The loop's invariant: the first bucket with a member before its turn is the first from j on.
--- The measure is what is left of them.
 use Prim.Native.Nat.{◌<◌}
-use native.Mathlib.Nat.{sub-zero}
 use native.Mathlib.Omega.{arith}
 use Rattle.crumbmap.specs.Layouts.{layout1, backyards}
 use Rattle.validation.proofs.CheckSteps.{early-on, early-stop, early-end}
@@ -13,40 +11,33 @@ inside : (c : In-loop-j) → c.loop-j.j < backyards c.args.size
 unfolding backyards
 inside c = omega arith
 
-pub loop-j-init : goal.loop-j-init
-loop-j-init c = (omega arith, rw sub-zero)
-
 pub bucket_in_turn-requires : goal.bucket_in_turn-requires
-bucket_in_turn-requires c = (c.requires, inside c)
+bucket_in_turn-requires c = (c.requires, inside (goal.at.bucket_in_turn-requires c).In-loop-j)
 
 pub table_of-requires : goal.table_of-requires
 table_of-requires c = (c.requires.whole.small, inside (goal.at.table_of-requires c).In-loop-j)
 
 pub returns-then-not-bucket_in_turn : goal.returns-then-not-bucket_in_turn
 returns-then-not-bucket_in_turn c =
+    let a = c.args in
     let l = c.loop-j in
+    let i = inside (goal.at.returns-then-not-bucket_in_turn c).In-loop-j in
     rw (
       c.table_of.ensures,
-      early-stop layout1 c.args.size (backyards c.args.size) l.j c.args.image.now l.invariant.1 (inside (goal.at.returns-then-not-bucket_in_turn c).In-loop-j) (c.requires.back l.j (inside (goal.at.returns-then-not-bucket_in_turn c).In-loop-j))
-          c.bucket_in_turn.ensures (rw c.if-not-bucket_in_turn.true),
+      early-stop layout1 a.size (backyards a.size) l.j a.image.now l.invariant i (c.requires.back l.j i) c.bucket_in_turn.ensures
+          (rw c.if-not-bucket_in_turn.true),
     )
-
-pub overflow_add-j : goal.overflow_add-j
-overflow_add-j c = omega (arith, c.requires.whole.small)
 
 pub loop-j-preserved : goal.loop-j-preserved
 loop-j-preserved c =
-    let l = c.loop-j in (
-      omega arith,
-      early-on layout1 c.args.size (backyards c.args.size) l.j c.args.image.now l.invariant.1 (inside (goal.at.loop-j-preserved c).In-loop-j) (c.requires.back l.j (inside (goal.at.loop-j-preserved c).In-loop-j))
-          c.bucket_in_turn.ensures (rw c.if-not-bucket_in_turn.false),
-    )
+    let a = c.args in
+    let l = c.loop-j in
+    let i = inside (goal.at.loop-j-preserved c).In-loop-j in
+    early-on layout1 a.size (backyards a.size) l.j a.image.now l.invariant i (c.requires.back l.j i) c.bucket_in_turn.ensures
+    (rw c.if-not-bucket_in_turn.false)
 
 pub returns : goal.returns
 unfolding backyards
 returns c =
     let a = c.args in
-    rw (early-end layout1 a.size (backyards a.size) c.loop-j.j a.image.now c.loop-j.invariant.1 (omega arith))
-
-pub loop-j-smaller : goal.loop-j-smaller
-loop-j-smaller c = omega arith
+    rw (early-end layout1 a.size (backyards a.size) c.loop-j.j a.image.now c.loop-j.invariant (omega arith))

@@ -42,6 +42,3 @@ overflow_add-result c =
 
 pub returns : goal.returns
 returns c = ap (λ (x : ℕ). c.if-here-rank.at + x) c.in_half.ensures ∙ (half (goal.at.returns c).Joined-here-rank).place
-
-pub overflow_shr-byte : goal.overflow_shr-byte
-overflow_shr-byte c = omega (arith, (half (goal.at.overflow_shr-byte c).Joined-here-rank).small)

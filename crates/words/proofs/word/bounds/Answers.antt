@@ -29,9 +29,6 @@ overflow_shr-past c = place-lt c
 pub overflow_add-past : goal.overflow_add-past
 overflow_add-past c = omega (arith, place-lt c, trailing_le 64 (c.args.word / 2 ^ c.first_place-place.result))
 
-pub overflow_cast-result-2 : goal.overflow_cast-result-2
-overflow_cast-result-2 c = omega (arith, place-lt c, trailing_le 64 (c.args.word / 2 ^ c.first_place-place.result))
-
 pub returns : goal.returns
 returns c =
     let at : c.first_place-place.result - c.args.mini ≡ from c = omega arith in (

@@ -1,7 +1,6 @@
 -- `word::rest` meets its contract: the zeros from a slot's place are those of the slots from there on.
-use Prim.Native.Nat.{◌+◌, ◌/◌, ◌^◌, ◌<◌}
+use Prim.Native.Nat.{◌+◌, ◌<◌}
 use native.Mathlib.Omega.{arith}
-use lib.Count.{trailing_le}
 use Rattle.crumbmap.specs.Layouts.{layout1}
 use Rattle.words.proofs.SelectLaws.{place-minis_in, rest-minis_in}
 use Rattle.words.proofs.word.rest.Goals.{Start}
@@ -22,9 +21,6 @@ overflow_cast-result-2 c = omega (arith, place-lt c)
 
 pub overflow_shr-result : goal.overflow_shr-result
 overflow_shr-result c = place-lt c
-
-pub overflow_cast-result-3 : goal.overflow_cast-result-3
-overflow_cast-result-3 c = omega (arith, trailing_le 64 (c.args.word / 2 ^ (c.args.mini + c.args.slot)))
 
 pub returns : goal.returns
 returns c = rest-minis_in 64 layout1.minis c.args.word c.args.mini c.ranges.word.fits c.requires.full c.requires.within c.args.slot c.requires.from c.requires.past

@@ -1,2 +1,0 @@
--- A row of three asks.
-pub mod Rows
