@@ -46,6 +46,7 @@ fn read_some(input: &mut Stdin, buffer: &mut [u8]) -> usize
 }
 
 // The first `n` bytes of a buffer are taken in step by step, and what each step answers is printed; how many bytes of the next line are held then.
+// A turn goes on by as many bytes as its step uses up, so no range counts the turns.
 #[tactic(auto, using(crate::proofs::RunLaws::taken))]
 fn take_in(
     output: Stdout,

@@ -6,24 +6,25 @@ use mathlib.Core.Option.{Option, none, some}
 use native.Mathlib.Omega.{arith}
 use native.Mathlib.Decide.{dec_le}
 use borrow.Author.Tests.{lt-ltb, le-ltb, eq-eqb}
+use Rattle.std.specs.Prelude as S
 use Rattle.crumbmap.specs.Layouts.{Layout}
 use Rattle.machine.specs.Machine.{taker}
 use Rattle.machine.proofs.TakeLaws.{room-first, room-second}
 use Rattle.insertion.specs.Steps.Insertions.{taking_of}
-use Rattle.insertion.specs.declared.Taking.TheVariants as T
+use Rattle.insertion.specs.declared.Choice.TheVariants as C
 
 -- what each answer says
-pub taking-full : {o : Option Bool} → T.Full ≡ taking_of o → o ≡ none
+pub taking-full : {o : Option Bool} → S.None ≡ taking_of o → o ≡ none
 taking-full {o = none} e = refl
 taking-full {o = some true} e = cc
 taking-full {o = some false} e = cc
 
-pub taking-first : {o : Option Bool} → T.First ≡ taking_of o → o ≡ some true
+pub taking-first : {o : Option Bool} → S.Some C.First ≡ taking_of o → o ≡ some true
 taking-first {o = none} e = cc
 taking-first {o = some true} e = refl
 taking-first {o = some false} e = cc
 
-pub taking-second : {o : Option Bool} → T.Second ≡ taking_of o → o ≡ some false
+pub taking-second : {o : Option Bool} → S.Some C.Second ≡ taking_of o → o ≡ some false
 taking-second {o = none} e = cc
 taking-second {o = some true} e = cc
 taking-second {o = some false} e = refl

@@ -26,8 +26,7 @@ pub struct Spilling {
 
 // Which backyard bucket takes an overflow.
 #[derive(Clone, Copy)]
-pub enum Taking {
+pub enum Choice {
     First,
     Second,
-    Full,
 }

@@ -9,7 +9,7 @@ ghost use Rattle.image.specs.Steps.ImageReads.{Placed, FrontFull};
 ghost use Rattle.insertion.specs.Steps.Insertions.{Plans, FullAt, spilling_to};
 
 use crate::taker::taker;
-use crate::{InsertPlan, Spilling, Taking};
+use crate::{Choice, InsertPlan, Spilling};
 use answers::Refusal;
 use crumbmap::Front;
 use crumbmap::layout::FRONT_SLOTS;
@@ -42,11 +42,12 @@ fn plan_full(image: &[u8], target: Target, slot: usize) -> Result<InsertPlan, Re
     let front = target.front;
     let over = overflow_of(image, front, target.key);
     let (a, b) = read_backyard(image, size, front, ways_of(front, size), over)?;
-    match taker(a.members, b.members) {
-        Taking::Full => Err(Refusal::Full),
-        Taking::First => Ok(spills(over, slot, a)),
-        Taking::Second => Ok(spills(over, slot, b)),
-    }
+    let choice = taker(a.members, b.members).ok_or(Refusal::Full)?;
+    let to = match choice {
+        Choice::First => a,
+        Choice::Second => b,
+    };
+    Ok(spills(over, slot, to))
 }
 
 // "The largest of Front(f) and g."

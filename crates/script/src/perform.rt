@@ -13,12 +13,10 @@ pub fn step(
     b: &mut [u8],
     c: &mut [u8],
     out: &mut [u64],
-) -> Outcome {
-    let Some(line) = parse(text) else {
-        return Outcome::Nothing;
-    };
+) -> Option<Outcome> {
+    let line = parse(text)?;
     if let Operation::Changes(changes) = line.operation {
-        return Outcome::State(State { changes, ..state });
+        return Some(Outcome::State(State { changes, ..state }));
     }
     match line.target {
         Image::A => perform(line, state, b, c, a, out),
@@ -35,14 +33,18 @@ fn perform<'a>(
     upper: &'a [u8],
     buffer: &mut [u8],
     out: &mut [u64],
-) -> Outcome {
+) -> Option<Outcome> {
     let target = line.target;
     let n = state.length_of(target);
     match line.operation {
-        Operation::Length(q) => { Outcome::State(state.with_length(target, zeroed(buffer, n, q))) }
+        Operation::Length(q) => {
+            let n = zeroed(buffer, n, q);
+            Some(Outcome::State(state.with_length(target, n)))
+        }
         Operation::Copy(from) => {
             let from = picked(lower, upper, state, from, target);
-            Outcome::State(state.with_length(target, copied(from, buffer, n)))
+            let n = copied(from, buffer, n);
+            Some(Outcome::State(state.with_length(target, n)))
         }
         _ => called(line, state, lower, upper, buffer, out),
     }
@@ -56,25 +58,22 @@ fn called<'a>(
     upper: &'a [u8],
     buffer: &mut [u8],
     out: &mut [u64],
-) -> Outcome {
+) -> Option<Outcome> {
     let operation = line.operation;
     let target = line.target;
     let n = state.length_of(target);
     if buffer.len() < n {
-        return Outcome::Nothing;
+        return None;
     }
     let image = &mut buffer[..n];
     let given = match operation {
         Operation::Merge { first, second } => {
             let first = picked(lower, upper, state, first, target);
-            Some(merge(first, picked(lower, upper, state, second, target), image))
+            merge(first, picked(lower, upper, state, second, target), image)
         }
-        Operation::Attach(from) => Some(attach(picked(lower, upper, state, from, target), image)),
-        Operation::Detach(from) => Some(detach(picked(lower, upper, state, from, target), image)),
-        _ => within(operation, image, state.changes, out),
+        Operation::Attach(from) => attach(picked(lower, upper, state, from, target), image),
+        Operation::Detach(from) => detach(picked(lower, upper, state, from, target), image),
+        _ => within(operation, image, state.changes, out)?,
     };
-    match given {
-        Some(given) => Outcome::Said(operation, given),
-        None => Outcome::Nothing,
-    }
+    Some(Outcome::Said(operation, given))
 }

@@ -13,7 +13,7 @@ use crumbmap::map::{first_of, second_of};
 use crumbmap::{Front, Overflow};
 use image::back::insert_back_at;
 use image::place::back_bucket;
-use insertion::Taking;
+use insertion::Choice;
 use insertion::taker::taker;
 use search::find::{count_back, rank_back};
 
@@ -41,17 +41,15 @@ fn push(table: &[u8], image: &mut [u8], size: usize, front: Front, key: u32) -> 
     let second = second_of(front, size);
     let n0 = count_back(back_bucket(image, size, first.bucket));
     let n1 = count_back(back_bucket(image, size, second.bucket));
-    match taker(n0, n1) {
-        Taking::Full => false,
-        Taking::First => {
-            put_behind(table, image, size, first, key);
-            true
-        }
-        Taking::Second => {
-            put_behind(table, image, size, second, key);
-            true
-        }
-    }
+    let Some(choice) = taker(n0, n1) else {
+        return false;
+    };
+    let way = match choice {
+        Choice::First => first,
+        Choice::Second => second,
+    };
+    put_behind(table, image, size, way, key);
+    true
 }
 
 // A key joins a sound backyard bucket that has a free slot, with the crumb that it carries there.

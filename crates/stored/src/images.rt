@@ -9,7 +9,7 @@ pub enum Image {
 }
 
 // The image of a number.
-pub fn image_of(number: u64) -> Option<Image> {
+pub(crate) fn image_of(number: u64) -> Option<Image> {
     match number {
         0 => Some(Image::A),
         1 => Some(Image::B),

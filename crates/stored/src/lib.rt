@@ -17,10 +17,9 @@ pub struct Answered {
     pub sum: u64,
 }
 
-// What a line did: another state; a call, and what it gave; or neither.
+// What a line did: another state; or a call, and what it gave.
 #[derive(Clone, Copy)]
 pub enum Outcome {
     State(State),
     Said(Operation, Answered),
-    Nothing,
 }

@@ -38,7 +38,7 @@ pub enum Operation {
 
 impl Operation {
     // The number that lines have for it.
-    pub fn number(self) -> u64 {
+    pub(crate) fn number(self) -> u64 {
         match self {
             Operation::Length(_) => 0,
             Operation::Insert(_) => 1,

@@ -11,15 +11,15 @@ use stored::line::Operation;
 use stored::said::put_said;
 use stored::{Answered, Outcome};
 
-// The answer of a call is printed; the state after what was done.
-fn told(output: Stdout, done: Outcome, state: State) -> io::Result<State> {
+// The answer of a call is printed; the state after what was done, if anything was.
+fn told(output: Stdout, done: Option<Outcome>, state: State) -> io::Result<State> {
     match done {
-        Outcome::State(next) => Ok(next),
-        Outcome::Said(operation, given) => {
+        Some(Outcome::State(next)) => Ok(next),
+        Some(Outcome::Said(operation, given)) => {
             print(output, operation, given)?;
             Ok(state)
         }
-        Outcome::Nothing => Ok(state),
+        None => Ok(state),
     }
 }
 

@@ -13,17 +13,17 @@ use Rattle.image.specs.declared.Target.{Target}
 use Rattle.image.specs.declared.BackReading.{BackReading}
 use Rattle.image.specs.Steps.ImageReads.{Placed, FrontFull, FrontJoin, BackJoin}
 use Rattle.tails.specs.Steps.Changing.{within}
+use Rattle.insertion.specs.declared.Choice.{Choice}
+use Rattle.insertion.specs.declared.Choice.TheVariants as C
 use Rattle.insertion.specs.declared.InsertPlan.{InsertPlan}
 use Rattle.insertion.specs.declared.InsertPlan.TheVariants as P
 use Rattle.insertion.specs.declared.Spilling.{Spilling}
-use Rattle.insertion.specs.declared.Taking.{Taking}
-use Rattle.insertion.specs.declared.Taking.TheVariants as T
 
 -- the taker of an overflow, as the code names it
-abbrev pub taking_of : Option Bool → Taking
-taking_of none = T.Full
-taking_of (some true) = T.First
-taking_of (some false) = T.Second
+abbrev pub taking_of : Option Bool → S.Option Choice
+taking_of none = S.None
+taking_of (some true) = S.Some C.First
+taking_of (some false) = S.Some C.Second
 
 -- the plan by which an overflow goes to the backyard bucket of a reading
 abbrev pub spilling_to : ℕ → ℕ → BackReading → InsertPlan
