@@ -41,7 +41,7 @@ impl From<UnsoundBucket> for Refusal {
     }
 }
 
-// "A place: none, front, first or second, the last three with the lowest slot of g in that bag."
+// "A place: none, front, first or second, the last three with the lowest slot of g in that bag." It has a case for each of the four, as there.
 #[derive(Clone, Copy)]
 pub enum Place {
     Nowhere,

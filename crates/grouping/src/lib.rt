@@ -13,7 +13,8 @@ use answers::Entry;
 // What goes from entry to entry. The phase is 0 while the row's front buckets are fetched, 1 while it is tested, 2 while its entries receive their
 // answers, 3 where it is refused; `number` and `table` are the refusal's, 0 where there is none, and a bad tail's 11 stands from the beginning. Of the
 // group at `front`, the front bucket, b0 and b1, `reads` are read, of all groups so far `total`; keys below `bound` need no more of them. While
-// fetching, `total` has the bytes that were loaded. The fields are in an order that leaves no gap between them.
+// fetching, `total` has the bytes that were loaded. The fields are in an order that leaves no gap between them: with the phase as an
+// enum, which is one byte, a row takes 1.2 to 1.5 of its time.
 #[derive(Clone, Copy)]
 pub struct State {
     pub phase: u32,

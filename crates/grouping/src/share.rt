@@ -12,8 +12,7 @@ use crumbmap::Front;
 use crumbmap::fingerprint::{front_of, key_of};
 use crumbmap::layout::{FRONT_SLOTS, KEYS};
 use crumbmap::map::{coincide, first_of, second_of};
-use image::BackReading;
-use image::back::{find_at, read_back_at, seek_at};
+use image::back::{find_at, read_back_at, read_way, seek_at};
 use image::front::read_front_at;
 use image::place::bucket;
 use search::find::{count_front, largest_front};
@@ -146,16 +145,10 @@ fn share_first(image: &[u8], size: usize, front: Front, key: u32) -> Result<u32,
     requires { FrontIn size front.0 image.now × (key < keys layout1) × Exceeds layout1 front.0 key image.now }
     ensures { shared_of result ≡ sharing layout1 size front.0 key image.now 1 }
 {
-    let way = first_of(front, size);
-    let reading = read_back_at(image, size, way.bucket, key * 16 + way.crumb)?;
+    let first = read_way(image, size, first_of(front, size), key)?;
     if coincide(front, size) {
         return Ok(2);
     }
-    let first = BackReading {
-        way,
-        members: reading.members,
-        below: reading.below,
-    };
     if find_at(image, size, first, key).is_some() {
         return Ok(2);
     }

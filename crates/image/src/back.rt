@@ -82,8 +82,8 @@ pub fn read_backyard(
     Ok((first, second))
 }
 
-// One of them, by the way to it.
-fn read_way(
+// The backyard bucket at a way, read whole for a key with the crumb that it carries there.
+pub fn read_way(
     image: &[u8],
     size: usize,
     way: Overflow,

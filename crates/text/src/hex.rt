@@ -1,4 +1,4 @@
-// Upper-case hex digits, both ways.
+// Upper-case hex digits, both ways, byte by byte: the library's formatting and parsing say nothing of the bytes.
 
 ghost use Rattle.std.specs.Prelude.{◌≡◌, ◌<◌, ◌≤◌, length};
 ghost use Rattle.text.specs.Texts.{letter, digit_of, hex, unhex};

@@ -98,7 +98,8 @@ fn first_early(image: &[u8], size: usize) -> Option<usize>
     None
 }
 
-// No member of a backyard bucket stands before its turn: they are looked at where they stand.
+// No member of a backyard bucket stands before its turn: they are looked at where they stand. A turn goes on by a cursor, which holds the word's
+// zeros beside the slot, and an iterator of cursors would be a type and five laws more.
 fn bucket_in_turn(image: &[u8], size: usize, bucket: Backyard) -> bool
     requires { AllRead layout1 size image.now × (bucket.0 < backyards size) }
     ensures { result ≡ all_in_turn layout1 size bucket.0 image.now (in_back layout1 size bucket.0 image.now) }
