@@ -34,6 +34,8 @@ pub enum Operation {
     Tail { room: usize },
     // The change count that the pages bring from here on.
     Changes(u64),
+    // Any other number: nothing is done.
+    Other(u64),
 }
 
 impl Operation {
@@ -57,6 +59,7 @@ impl Operation {
             Operation::Detach(_) => 14,
             Operation::Tail { .. } => 15,
             Operation::Changes(_) => 16,
+            Operation::Other(number) => number,
         }
     }
 }
@@ -82,7 +85,7 @@ pub fn parse(text: &[u8]) -> Option<Line> {
         14 => between(Operation::Detach(x), x, y),
         number => Some(Line {
             target: x,
-            operation: operation_of(number, p, q)?,
+            operation: operation_of(number, p, q),
         }),
     }
 }
@@ -107,21 +110,21 @@ fn between(operation: Operation, from: Image, target: Image) -> Option<Line> {
 }
 
 // The operation on one image of a number, with p and q.
-fn operation_of(number: u64, p: u64, q: usize) -> Option<Operation> {
+fn operation_of(number: u64, p: u64, q: usize) -> Operation {
     match number {
-        0 => Some(Operation::Length(q)),
-        1 => Some(Operation::Insert(p)),
-        2 => Some(Operation::Delete(p)),
-        3 => Some(Operation::Ask(p)),
-        4 => Some(Operation::Count(p)),
-        5 => Some(Operation::Page { start: p, room: q }),
-        6 => Some(Operation::Fresh),
-        7 => Some(Operation::Check),
-        9 => Some(Operation::Poke { at: q, word: p }),
-        11 => Some(Operation::Row { hash: p, step: q }),
-        12 => Some(Operation::Occupancy { page: p, room: q }),
-        15 => Some(Operation::Tail { room: q }),
-        16 => Some(Operation::Changes(p)),
-        _ => None,
+        0 => Operation::Length(q),
+        1 => Operation::Insert(p),
+        2 => Operation::Delete(p),
+        3 => Operation::Ask(p),
+        4 => Operation::Count(p),
+        5 => Operation::Page { start: p, room: q },
+        6 => Operation::Fresh,
+        7 => Operation::Check,
+        9 => Operation::Poke { at: q, word: p },
+        11 => Operation::Row { hash: p, step: q },
+        12 => Operation::Occupancy { page: p, room: q },
+        15 => Operation::Tail { room: q },
+        16 => Operation::Changes(p),
+        _ => Operation::Other(number),
     }
 }
