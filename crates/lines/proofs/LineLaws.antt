@@ -1,21 +1,26 @@
 -- The lines of an input: those that were joined come back, and 19 bytes of a line say what all of it says.
--- Main results: lines-joined, lines-last, output-none; kept_full, kept_more; reads_byte, reads-newline.
+-- Main results: lines-joined, lines-last, output-none; kept_full, kept_more, kept_bytes; reads_byte, reads-newline, reads_plain.
 use mathlib.Core.Path.{◌≡◌, refl, sym, ◌∙◌, ap}
-use Prim.Native.Nat.{ℕ, ◌+◌, ◌≤◌, ◌<◌}
+use Prim.Native.Nat.{ℕ, ◌+◌, ◌-◌, ◌≤◌, ◌<◌, min}
 use mathlib.Core.Bool.{Bool, true, false}
 use mathlib.Core.List.{List, [], ◌∷◌, ◌++◌, map, append_assoc, append-nil}
 use native.Mathlib.Omega.{arith}
 use native.Mathlib.Numerals.{add-one}
 use lib.ListN.{length, take, get_or, set, length-append}
-use lib.Seq.{length-take-le, take_at, take_all, take-suc, take-suc-set, take-append-le}
+use lib.Seq.{length-take-le, take_at, take_all, take-suc, take-suc-set, take-append-le, take-append-add}
 use lib.Dec.{eqb, leb}
 use borrow.Author.Tests.{ne_eqb, leb-true, leb-false}
 use Rattle.frame.specs.Frames.{frame_of}
+use borrow.Rule.Slice.PartMut.{put_mid}
 use Rattle.std.specs.Prelude as S
+use Rattle.std.specs.List.{AllByRecursion}
+use Rattle.std.proofs.lemmas.List.{take_min}
+use Rattle.std.proofs.lemmas.List.Elements.{recursion_from_All}
+use Rattle.std.proofs.lemmas.Slice.{take-put_mid}
 use Rattle.frame.specs.declared.Frame.{Frame}
 use Rattle.frame.proofs.FrameLaws.{frame-length}
 use Rattle.lines.specs.Inputs.{last_line, lines_after, frames_after, text_of_frames, output_of}
-use Rattle.lines.specs.Steps.Turns.{kept, Reads}
+use Rattle.lines.specs.Steps.Turns.{kept, Reads, Holds}
 
 -- ---- lines joined
 
@@ -79,6 +84,19 @@ kept_more line n b h l =
     let k : length (take n line ++ (b ∷ [])) ≤ 19 = rw (length-append (take n line) (b ∷ []), length-take-le n line (omega arith)) (omega arith) in
     rw (add-one n, take-suc-set line n b (omega arith)) (sym (take_all 19 (take n line ++ (b ∷ [])) k))
 
+-- of bytes behind those held as many are held as make 19
+pub kept_bytes : (line bytes new : List ℕ) (n past : ℕ) → length line ≡ 19 → n ≤ 19 → past ≡ min (n + length bytes) 19
+    → new ≡ take (past - n) bytes → take past (put_mid n (past - n) line new) ≡ take 19 (take n line ++ bytes)
+kept_bytes line bytes new n past l h p e =
+    let k : length (take n line) ≡ n = length-take-le n line (omega arith) in
+    let i : length (take n line) + (19 - n) ≡ 19 = omega (arith, k) in
+    let j : past - n ≡ min (19 - n) (length bytes) = omega (arith, p) in
+    let m : length new ≡ past - n = rw (e, length-take-le (past - n) bytes (omega arith)) in
+    let f : new ≡ take (19 - n) bytes = e ∙ rw j (take_min (19 - n) bytes) in
+    let a : past ≡ n + length new = omega (arith, m) in
+    let t : take 19 (take n line ++ bytes) ≡ take n line ++ take (19 - n) bytes = rw i at (take-append-add (take n line) bytes (19 - n)) in
+    take-put_mid n (past - n) line new past a (omega arith) ∙ rw f (sym t)
+
 -- a byte behind 19 that are held is not held
 kept-take : (l : List ℕ) (b : ℕ) → kept (take 19 l) b ≡ take 19 (l ++ (b ∷ []))
 unfolding kept
@@ -131,6 +149,25 @@ pub reads-newline : (held : List ℕ) (b : ℕ) → b ≡ 10 → Reads held (b �
 unfolding lines_after
 reads-newline held b e rest = rw e
 
+-- bytes without a newline
+plain-all : (bs : List ℕ) → S.All (λ (b : ℕ). b ≡ 10 → ⊥) bs → Plain bs
+plain-all bs p = go bs (recursion_from_All (λ (b : ℕ). b ≡ 10 → ⊥) bs p)
+  where
+    go : (bs : List ℕ) → AllByRecursion (λ (b : ℕ). b ≡ 10 → ⊥) bs → Plain bs
+    go [] q = tt
+    go (b ∷ bs) q = (q.0, go bs q.1)
+
+pub reads_plain : (held bs : List ℕ) → S.All (λ (b : ℕ). b ≡ 10 → ⊥) bs → Reads held bs [] (take 19 (held ++ bs))
+reads_plain held bs p rest =
+    ap (λ (ls : List (List ℕ)). map frame_of ls) (plain-after held bs rest (plain-all bs p)) ∙ sym (frames-held (held ++ bs) rest)
+
+-- bytes up to a newline, or all of them, are held
+pub holds_plain : (held bytes line : List ℕ) (used n : ℕ) → n ≤ 19 → used ≤ length bytes → (used < length bytes → get_or bytes used 0 ≡ 10)
+    → S.All (λ (b : ℕ). b ≡ 10 → ⊥) (take used bytes) → take n line ≡ take 19 (held ++ take used bytes)
+    → Holds held bytes (record { used = used; held = n }) line
+holds_plain held bytes line used n f w b p e =
+    record { few = f; within = w; newline = b; reads = rw e (reads_plain held (take used bytes) p) }
+
 -- bytes behind bytes
 pub reads_on : (held bs held₁ cs held₂ : List ℕ) (fs gs : List (S.Option Frame)) → Reads held bs fs held₁ → Reads held₁ cs gs held₂
     → Reads held (bs ++ cs) (fs ++ gs) held₂
@@ -145,4 +182,4 @@ reads_more held bytes held₁ held₂ i h p e r =
     (reads_on held (take i bytes) held₁ (get_or bytes i 0 ∷ []) (kept held₁ (get_or bytes i 0)) [] [] r (reads_byte held₁ (get_or bytes i 0) p))
 
 -- what is known of bytes held
-pub ruleset held = (kept_full, kept_more, reads_none, reads_more)
+pub ruleset held = (kept_bytes, holds_plain)

@@ -1,7 +1,7 @@
 // Bytes of a line are held until its newline comes.
 
-ghost use Rattle.std.specs.Prelude.{◌≡◌, ◌≤◌, length, take};
-ghost use Rattle.lines.specs.Steps.Turns.{kept, Holds};
+ghost use Rattle.std.specs.Prelude.{◌≡◌, ◌≢◌, ◌≤◌, ◌<◌, ◌++◌, length, take, get_or, All};
+ghost use Rattle.lines.specs.Steps.Turns.{Holds};
 
 use crate::Held;
 
@@ -11,28 +11,30 @@ pub(crate) fn hold(bytes: &[u8], line: &mut [u8], held: usize) -> Held
     requires { (length line.old ≡ 19) × (held ≤ 19) }
     ensures { Holds (take held line.old) bytes.now result line.new }
 {
-    let mut n = held;
-    for (i, &byte) in bytes.iter().enumerate() {
-        if byte == 10 {
-            return Held { used: i, held: n };
-        }
-        n = keep(line, n, byte);
-    }
-    Held {
-        used: bytes.len(),
-        held: n,
-    }
+    let used = before_newline(bytes);
+    let held = keep(line, held, &bytes[..used]);
+    Held { used, held }
 }
 
-// A byte is held behind the others, of which 19 suffice.
-#[tactic(auto, using(crate::proofs::LineLaws::held))]
-fn keep(line: &mut [u8], held: usize, byte: u8) -> usize
-    requires { (length line.old ≡ 19) × (held ≤ 19) }
-    ensures { (result ≤ 19) × (take result line.new ≡ kept (take held line.old) byte) }
+// How many bytes stand before the next newline; all of them where none comes.
+fn before_newline(bytes: &[u8]) -> usize
+    ensures within { result ≤ length bytes.now }
+    ensures newline { result < length bytes.now → get_or bytes.now result 0 ≡ 10 }
+    ensures before { All (λ b. b ≢ 10) (take result bytes.now) }
 {
-    if held == 19 {
-        return 19;
-    }
-    line[held] = byte;
-    held + 1
+    bytes
+        .iter()
+        .position(|&byte| byte == 10)
+        .unwrap_or(bytes.len())
+}
+
+// Bytes are held behind the others, of which 19 suffice.
+#[tactic(auto, using(crate::proofs::LineLaws::held))]
+fn keep(line: &mut [u8], held: usize, bytes: &[u8]) -> usize
+    requires { (length line.old ≡ 19) × (held ≤ 19) }
+    ensures { (result ≤ 19) × (take result line.new ≡ take 19 (take held line.old ++ bytes.now)) }
+{
+    let past = (held + bytes.len()).min(19);
+    line[held..past].copy_from_slice(&bytes[..past - held]);
+    past
 }
