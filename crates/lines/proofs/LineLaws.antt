@@ -10,8 +10,8 @@ use lib.ListN.{length, take, get_or, set, length-append}
 use lib.Seq.{length-take-le, take_at, take_all, take-suc, take-suc-set, take-append-le, take-append-add}
 use lib.Dec.{eqb, leb}
 use borrow.Author.Tests.{ne_eqb, leb-true, leb-false}
-use Rattle.frame.specs.Frames.{frame_of}
 use borrow.Rule.Slice.PartMut.{put_mid}
+use Rattle.frame.specs.Frames.{frame_of}
 use Rattle.std.specs.Prelude as S
 use Rattle.std.specs.List.{AllByRecursion}
 use Rattle.std.proofs.lemmas.List.{take_min}
@@ -26,8 +26,7 @@ use Rattle.lines.specs.Steps.Turns.{kept, Reads, Holds}
 
 -- no newline among bytes
 abbrev pub Plain : List ℕ → Type 0
-Plain [] = Unit {0}
-Plain (b ∷ bs) = (b ≡ 10 → ⊥) × Plain bs
+Plain bytes = AllByRecursion (λ (b : ℕ). b ≡ 10 → ⊥) bytes
 
 abbrev pub AllPlain : List (List ℕ) → Type 0
 AllPlain [] = Unit {0}
@@ -74,19 +73,19 @@ output-none = refl
 
 -- ---- bytes held
 
-pub kept_full : (line : List ℕ) (n b : ℕ) → length line ≡ 19 → n ≡ 19 → take 19 line ≡ kept (take n line) b
+pub kept_full : (line : List ℕ) (n b : ℕ) → length line ≡ 19 → n ≡ 19 → take 19 line ≡ kept (take n line) (b ∷ [])
 unfolding kept
 kept_full line n b h e = rw (e, take_all 19 line (omega arith)) (sym (take_at line (b ∷ []) 19 h))
 
-pub kept_more : (line : List ℕ) (n b : ℕ) → length line ≡ 19 → n < 19 → take (n + 1) (set line n b) ≡ kept (take n line) b
+pub kept_more : (line : List ℕ) (n b : ℕ) → length line ≡ 19 → n < 19 → take (n + 1) (set line n b) ≡ kept (take n line) (b ∷ [])
 unfolding kept
 kept_more line n b h l =
     let k : length (take n line ++ (b ∷ [])) ≤ 19 = rw (length-append (take n line) (b ∷ []), length-take-le n line (omega arith)) (omega arith) in
     rw (add-one n, take-suc-set line n b (omega arith)) (sym (take_all 19 (take n line ++ (b ∷ [])) k))
 
--- of bytes behind those held as many are held as make 19
 pub kept_bytes : (line bytes new : List ℕ) (n past : ℕ) → length line ≡ 19 → n ≤ 19 → past ≡ min (n + length bytes) 19
-    → new ≡ take (past - n) bytes → take past (put_mid n (past - n) line new) ≡ take 19 (take n line ++ bytes)
+    → new ≡ take (past - n) bytes → take past (put_mid n (past - n) line new) ≡ kept (take n line) bytes
+unfolding kept
 kept_bytes line bytes new n past l h p e =
     let k : length (take n line) ≡ n = length-take-le n line (omega arith) in
     let i : length (take n line) + (19 - n) ≡ 19 = omega (arith, k) in
@@ -98,7 +97,7 @@ kept_bytes line bytes new n past l h p e =
     take-put_mid n (past - n) line new past a (omega arith) ∙ rw f (sym t)
 
 -- a byte behind 19 that are held is not held
-kept-take : (l : List ℕ) (b : ℕ) → kept (take 19 l) b ≡ take 19 (l ++ (b ∷ []))
+kept-take : (l : List ℕ) (b : ℕ) → kept (take 19 l) (b ∷ []) ≡ take 19 (l ++ (b ∷ []))
 unfolding kept
 kept-take l b = go (leb (length l) 19) refl
   where
@@ -141,29 +140,24 @@ frames-held l (b ∷ bs) = byte-held l bs b (eqb b 10) refl (λ (k : List ℕ). 
 pub reads_none : (held : List ℕ) → Reads held [] [] held
 reads_none held rest = refl
 
-pub reads_byte : (held : List ℕ) (b : ℕ) → (b ≡ 10 → ⊥) → Reads held (b ∷ []) [] (kept held b)
-unfolding lines_after kept
-reads_byte held b h rest = rw (ne_eqb b 10 h) (sym (frames-held (held ++ (b ∷ [])) rest))
+-- bytes without a newline
+plain-read : (held bs : List ℕ) → Plain bs → Reads held bs [] (kept held bs)
+unfolding kept
+plain-read held bs p rest = ap (λ (ls : List (List ℕ)). map frame_of ls) (plain-after held bs rest p) ∙ sym (frames-held (held ++ bs) rest)
+
+pub reads_plain : (held bs : List ℕ) → S.All (λ (b : ℕ). b ≡ 10 → ⊥) bs → Reads held bs [] (kept held bs)
+reads_plain held bs p = plain-read held bs (recursion_from_All (λ (b : ℕ). b ≡ 10 → ⊥) bs p)
+
+pub reads_byte : (held : List ℕ) (b : ℕ) → (b ≡ 10 → ⊥) → Reads held (b ∷ []) [] (kept held (b ∷ []))
+reads_byte held b h = plain-read held (b ∷ []) (h, tt)
 
 pub reads-newline : (held : List ℕ) (b : ℕ) → b ≡ 10 → Reads held (b ∷ []) (frame_of held ∷ []) []
 unfolding lines_after
 reads-newline held b e rest = rw e
 
--- bytes without a newline
-plain-all : (bs : List ℕ) → S.All (λ (b : ℕ). b ≡ 10 → ⊥) bs → Plain bs
-plain-all bs p = go bs (recursion_from_All (λ (b : ℕ). b ≡ 10 → ⊥) bs p)
-  where
-    go : (bs : List ℕ) → AllByRecursion (λ (b : ℕ). b ≡ 10 → ⊥) bs → Plain bs
-    go [] q = tt
-    go (b ∷ bs) q = (q.0, go bs q.1)
-
-pub reads_plain : (held bs : List ℕ) → S.All (λ (b : ℕ). b ≡ 10 → ⊥) bs → Reads held bs [] (take 19 (held ++ bs))
-reads_plain held bs p rest =
-    ap (λ (ls : List (List ℕ)). map frame_of ls) (plain-after held bs rest (plain-all bs p)) ∙ sym (frames-held (held ++ bs) rest)
-
 -- bytes up to a newline, or all of them, are held
 pub holds_plain : (held bytes line : List ℕ) (used n : ℕ) → n ≤ 19 → used ≤ length bytes → (used < length bytes → get_or bytes used 0 ≡ 10)
-    → S.All (λ (b : ℕ). b ≡ 10 → ⊥) (take used bytes) → take n line ≡ take 19 (held ++ take used bytes)
+    → S.All (λ (b : ℕ). b ≡ 10 → ⊥) (take used bytes) → take n line ≡ kept held (take used bytes)
     → Holds held bytes (record { used = used; held = n }) line
 holds_plain held bytes line used n f w b p e =
     record { few = f; within = w; newline = b; reads = rw e (reads_plain held (take used bytes) p) }
@@ -175,11 +169,11 @@ reads_on held bs held₁ cs held₂ fs gs p q rest =
     rw (append_assoc bs cs rest) (p (cs ++ rest) ∙ rw (q rest) (sym (append_assoc fs gs (frames_after held₂ rest))))
 
 -- one byte more is held
-pub reads_more : (held bytes held₁ held₂ : List ℕ) (i : ℕ) → i < length bytes → (get_or bytes i 0 ≡ 10 → ⊥) → held₂ ≡ kept held₁ (get_or bytes i 0)
+pub reads_more : (held bytes held₁ held₂ : List ℕ) (i : ℕ) → i < length bytes → (get_or bytes i 0 ≡ 10 → ⊥) → held₂ ≡ kept held₁ (get_or bytes i 0 ∷ [])
     → Reads held (take i bytes) [] held₁ → Reads held (take (i + 1) bytes) [] held₂
 reads_more held bytes held₁ held₂ i h p e r =
     rw (add-one i, take-suc bytes i 0 h, e)
-    (reads_on held (take i bytes) held₁ (get_or bytes i 0 ∷ []) (kept held₁ (get_or bytes i 0)) [] [] r (reads_byte held₁ (get_or bytes i 0) p))
+    (reads_on held (take i bytes) held₁ (get_or bytes i 0 ∷ []) (kept held₁ (get_or bytes i 0 ∷ [])) [] [] r (reads_byte held₁ (get_or bytes i 0) p))
 
 -- what is known of bytes held
 pub ruleset held = (kept_bytes, holds_plain)

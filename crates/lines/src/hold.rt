@@ -1,7 +1,7 @@
 // Bytes of a line are held until its newline comes.
 
-ghost use Rattle.std.specs.Prelude.{◌≡◌, ◌≢◌, ◌≤◌, ◌<◌, ◌++◌, length, take, get_or, All};
-ghost use Rattle.lines.specs.Steps.Turns.{Holds};
+ghost use Rattle.std.specs.Prelude.{◌≡◌, ◌≢◌, ◌≤◌, ◌<◌, length, take, get_or, All};
+ghost use Rattle.lines.specs.Steps.Turns.{kept, Holds};
 
 use crate::Held;
 
@@ -32,7 +32,7 @@ fn before_newline(bytes: &[u8]) -> usize
 #[tactic(auto, using(crate::proofs::LineLaws::held))]
 fn keep(line: &mut [u8], held: usize, bytes: &[u8]) -> usize
     requires { (length line.old ≡ 19) × (held ≤ 19) }
-    ensures { (result ≤ 19) × (take result line.new ≡ take 19 (take held line.old ++ bytes.now)) }
+    ensures { (result ≤ 19) × (take result line.new ≡ kept (take held line.old) bytes.now) }
 {
     let past = (held + bytes.len()).min(19);
     line[held..past].copy_from_slice(&bytes[..past - held]);

@@ -8,8 +8,8 @@ use Rattle.lines.specs.declared.Held.{Held}
 use Rattle.lines.specs.declared.Step.{Step}
 
 -- of a line the first 19 bytes are held: one longer than 18 bytes is malformed whatever follows
-unfoldable pub kept : List ℕ → ℕ → List ℕ
-kept held b = take 19 (held ++ (b ∷ []))
+unfoldable pub kept : List ℕ → List ℕ → List ℕ
+kept held bytes = take 19 (held ++ bytes)
 
 -- `bytes` after the held start of a line are these frames and a held start of the next line, whatever follows
 abbrev pub Reads : List ℕ → List ℕ → List (S.Option Frame) → List ℕ → Type 0
